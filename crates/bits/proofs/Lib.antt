@@ -1,0 +1,8 @@
+pub mod Choice
+pub mod Cascade
+pub mod Lists
+pub mod Bits
+pub mod Xor
+pub mod Ones
+pub mod Words
+pub mod Below

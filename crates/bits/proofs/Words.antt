@@ -1,0 +1,94 @@
+-- Laws of words10, reservedCode and nineOf.
+use mathlib.Core.Path.{_≡_, refl}
+use mathlib.Core.Bool.{Bool, true, false}
+use mathlib.Core.List.{List, [], _∷_, _++_}
+use Prim.Native.Nat.{ℕ, zero, suc, _+_, _/_, _%_, _≤_, _<_}
+use native.Mathlib.Omega.{arith}
+use native.Mathlib.Numerals.{add-one}
+use lib.Dec.{leb}
+use lib.ListN.{length, getD, drop}
+use lib.Seq.{drop-cons, drop-length}
+use borrow.Author.Tests.{le-leb, lt-leb, leb-true}
+use Rattle.bits.specs.Choice.{if}
+use Rattle.bits.specs.Bits.{odd, digit}
+use Rattle.bits.specs.Words.{words10, reservedCode, nineOf}
+use Rattle.bits.proofs.Choice.{if-true}
+use Rattle.bits.proofs.Bits.{digit-odd}
+
+-- ---- words10: a turn of a loop, its stop and its end
+
+pub words10-step : (i : ℕ) (ws : List ℕ) → i < length ws → getD ws i 0 ≤ 0x3ff → words10 (drop i ws) ≡ words10 (drop (i + 1) ws)
+unfolding words10
+words10-step i ws h k = rw (add-one, drop-cons ws i 0, le-leb (getD ws i 0) 0x3ff k)
+
+pub words10-stop : (i : ℕ) (ws : List ℕ) → i < length ws → 0x3ff < getD ws i 0 → words10 (drop i ws) ≡ false
+unfolding words10
+words10-stop i ws h k = rw (drop-cons ws i 0, lt-leb (getD ws i 0) 0x3ff k)
+
+pub words10-end : (i : ℕ) (ws : List ℕ) → i ≡ length ws → words10 (drop i ws) ≡ true
+unfolding words10
+words10-end i ws e = rw (e, drop-length)
+
+pub words10-nil : (ws : List ℕ) → ws ≡ [] → words10 ws ≡ true
+unfolding words10
+words10-nil ws e = rw e
+
+pub words10-cons : (w : ℕ) (ws : List ℕ) → w ≤ 0x3ff → words10 ws ≡ true → words10 (w ∷ ws) ≡ true
+unfolding words10
+words10-cons w ws r t = rw (le-leb w 0x3ff r) t
+
+pub words10-head : (w : ℕ) (ws : List ℕ) → words10 (w ∷ ws) ≡ true → w ≤ 0x3ff
+unfolding words10
+words10-head w ws t = leb-true w 0x3ff (if-true (leb w 0x3ff) (words10 ws) t .0)
+
+pub words10-tail : (w : ℕ) (ws : List ℕ) → words10 (w ∷ ws) ≡ true → words10 ws ≡ true
+unfolding words10
+words10-tail w ws t = if-true (leb w 0x3ff) (words10 ws) t .1
+
+pub words10-at : (ws : List ℕ) (i : ℕ) → words10 ws ≡ true → i < length ws → getD ws i 0 ≤ 0x3ff
+words10-at [] i t h = absurd (omega arith)
+words10-at (w ∷ ws) zero t h = words10-head w ws t
+words10-at (w ∷ ws) (suc i) t h = words10-at ws i (words10-tail w ws t) (omega arith)
+
+pub words10-append : (ws vs : List ℕ) → words10 ws ≡ true → words10 (ws ++ vs) ≡ words10 vs
+unfolding words10
+words10-append [] vs h = refl
+words10-append (w ∷ ws) vs h = go (leb w 0x3ff) h (words10-append ws vs)
+  where
+    go : (b : Bool) → if b (words10 ws) false ≡ true → (words10 ws ≡ true → words10 (ws ++ vs) ≡ words10 vs)
+        → if b (words10 (ws ++ vs)) false ≡ words10 vs
+    go true e rest = rest e
+    go false e rest = cc
+
+-- ---- nineOf: range, inverse, never reserved
+
+-- bit 9 is the inverse of bit 8, so that the two high bits are 01 or 10
+pub nine-range : (n : ℕ) → (256 ≤ nineOf n) × (nineOf n < 768)
+unfolding nineOf
+nine-range n = go (odd (n / 256)) (digit-odd (n / 256))
+  where
+    go : (b : Bool) → digit b ≡ n / 256 % 2 → (256 ≤ n % 512 + if b 0 512) × (n % 512 + if b 0 512 < 768)
+    go true e = (omega arith, omega arith)
+    go false e = (omega arith, omega arith)
+
+pub nine-low : (n : ℕ) → nineOf n % 512 ≡ n % 512
+unfolding nineOf
+nine-low n = go (odd (n / 256))
+  where
+    go : (b : Bool) → (n % 512 + if b 0 512) % 512 ≡ n % 512
+    go true = omega arith
+    go false = omega arith
+
+-- nineOf sees the low nine bits alone
+pub nine-of-low : (n : ℕ) → nineOf (n % 512) ≡ nineOf n
+unfolding nineOf odd
+nine-of-low n =
+    let low : n % 512 % 512 ≡ n % 512 = omega arith in
+    let bit : n % 512 / 256 % 2 ≡ n / 256 % 2 = omega arith in
+    rw (low, bit)
+
+pub nine-not-reserved : (n : ℕ) → reservedCode (nineOf n) ≡ false
+unfolding reservedCode
+nine-not-reserved n =
+    let r = nine-range n in
+    rw (lt-leb (nineOf n) 0x003 (omega arith), lt-leb 0x3fc (nineOf n) (omega arith))

@@ -1,0 +1,6 @@
+pub mod Steps
+pub mod Linear
+pub mod Range
+pub mod Words
+pub mod Burst
+pub mod Parity

@@ -1,0 +1,98 @@
+// The CRC of a channel: the register's steps, and its two words.
+ghost use mathlib.Core.Path.{_≡_};
+ghost use Rattle.bits.specs.Bits.{odd};
+ghost use Rattle.crc.specs.Crc.{crcBit, crcWord, crcWords, ran, crWords};
+
+// The highest register: eighteen ones.
+const REGISTER_TOP: u32 = 0x3ffff;
+
+pub struct Ran {
+    pub refusal: u8,
+    pub register: u32,
+}
+
+pub struct CrcWords {
+    pub refusal: u8,
+    pub cr0: u16,
+    pub cr1: u16,
+}
+
+// The register after bit 0 of `w`.
+fn step_bit(register: u32, w: u16) -> u32
+    ensures { λ r. ⌜ r ≡ crcBit register (odd w) ⌝ }
+{
+    if register % 2 == (w % 2) as u32 {
+        register / 2
+    } else {
+        (register / 2) ^ 0x23000
+    }
+}
+
+// The register after the ten bits of a word.
+pub fn step_word(register: u32, word: u16) -> u32
+    ensures { λ r. ⌜ r ≡ crcWord register word ⌝ }
+{
+    let mut r = register;
+    let mut w = word;
+    for i in 0..10u32 {
+        r = step_bit(r, w);
+        w = w / 2;
+    }
+    r
+}
+
+// The register after words, whatever they are.
+pub fn step_words(register: u32, words: &[u16]) -> u32
+    ensures { λ r. ⌜ r ≡ crcWords register (now (words .entry)) ⌝ }
+{
+    let mut r = register;
+    let mut i = 0;
+    while i < words.len() {
+        r = step_word(r, words[i]);
+        i += 1;
+    }
+    r
+}
+
+// The register after words; 3.
+pub fn run(register: u32, words: &[u16]) -> Ran
+    ensures { λ r. ⌜ r ≡ ran register (now (words .entry)) ⌝ }
+{
+    if register > REGISTER_TOP {
+        return Ran {
+            refusal: 3,
+            register: 0,
+        };
+    }
+    if !bits::all_words(words) {
+        return Ran {
+            refusal: 3,
+            register: 0,
+        };
+    }
+    let r = step_words(register, words);
+    Ran {
+        refusal: 0,
+        register: r,
+    }
+}
+
+// CR0 and CR1 of a register; 3.
+pub fn words_of(register: u32) -> CrcWords
+    ensures { λ r. ⌜ r ≡ crWords register ⌝ }
+{
+    if register > REGISTER_TOP {
+        return CrcWords {
+            refusal: 3,
+            cr0: 0,
+            cr1: 0,
+        };
+    }
+    let cr0 = bits::nine((register % 512) as u16);
+    let cr1 = bits::nine((register / 512) as u16);
+    CrcWords {
+        refusal: 0,
+        cr0,
+        cr1,
+    }
+}

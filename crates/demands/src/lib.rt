@@ -1,0 +1,2 @@
+// What clients can conclude from the libraries' contracts alone.
+pub mod twice;

@@ -1,0 +1,4 @@
+pub mod All
+pub mod Table
+pub mod Places
+pub mod Lines

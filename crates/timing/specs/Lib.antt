@@ -1,0 +1,2 @@
+pub mod Xyz
+pub mod Line

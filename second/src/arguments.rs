@@ -1,0 +1,54 @@
+//! A request's numbers, read one after another.
+
+use std::vec::IntoIter;
+
+pub struct Arguments(IntoIter<u32>);
+
+impl Arguments {
+    /// "A request is a line of hexadecimal numbers (lower case, no leading zeros, one space between two)."
+    pub fn parse(line: &str) -> Result<Self, String> {
+        let numbers: Result<Vec<u32>, String> = line.split(' ').map(parse_number).collect();
+        Ok(Self(numbers?.into_iter()))
+    }
+
+    pub fn number(&mut self) -> Result<u32, String> {
+        self.0
+            .next()
+            .ok_or_else(|| "an argument is missing".to_string())
+    }
+
+    /// "an element of a list, a word and a history are below 2^16"
+    pub fn word(&mut self) -> Result<u16, String> {
+        let number = self.number()?;
+        u16::try_from(number).map_err(|_| format!("{number:x} is not below 2^16"))
+    }
+
+    /// "a flag is 0 or 1"
+    pub fn flag(&mut self) -> Result<bool, String> {
+        match self.number()? {
+            0 => Ok(false),
+            1 => Ok(true),
+            number => Err(format!("{number:x} is not a flag")),
+        }
+    }
+
+    /// "`LIST` stands for the count of its elements and then the elements."
+    pub fn list(&mut self) -> Result<Vec<u16>, String> {
+        let count = self.number()?;
+        (0..count).map(|_| self.word()).collect()
+    }
+
+    pub fn end(&mut self) -> Result<(), String> {
+        match self.0.next() {
+            None => Ok(()),
+            Some(number) => Err(format!("{number:x} is one argument too many")),
+        }
+    }
+}
+
+fn parse_number(text: &str) -> Result<u32, String> {
+    let number = u32::from_str_radix(text, 16).ok();
+    number
+        .filter(|number| format!("{number:x}") == text)
+        .ok_or_else(|| format!("'{text}' is not a number of the request format"))
+}

@@ -1,0 +1,127 @@
+//! Cable bits: scrambling, unscrambling, and finding alignment.
+//!
+//! `w` holds cable bits, oldest first; its first ten are the history,
+//! "the last ten cable bits as one word, oldest lowest".
+
+use crate::refusal::{refuse, Refusal};
+use crate::words::{all_words, bits_of, bits_of_all, is_word, word_of, words_of, WORD_BITS};
+
+const HISTORY_BITS: usize = WORD_BITS;
+const SYNC_ONES: usize = 20;
+const SYNC_ZEROS: usize = 40;
+
+/// "s(n) = w(n) xor w(n-1)"
+fn s(w: &[bool], n: usize) -> bool {
+    w[n] ^ w[n - 1]
+}
+
+/// The history's cable bits, then those of the words.
+fn scrambled(history: u16, words: &[u16]) -> Vec<bool> {
+    let mut w = bits_of(history);
+    for d in bits_of_all(words) {
+        let n = w.len();
+        // "s(n) = d(n) xor s(n-5) xor s(n-9)"
+        let scrambled = d ^ s(&w, n - 5) ^ s(&w, n - 9);
+        // "w(n) = s(n) xor w(n-1)"
+        w.push(scrambled ^ w[n - 1]);
+    }
+    w
+}
+
+/// "d(n) = s(n) xor s(n-5) xor s(n-9)", for each bit after the history.
+fn unscrambled(w: &[bool]) -> Vec<bool> {
+    (HISTORY_BITS..w.len())
+        .map(|n| s(w, n) ^ s(w, n - 5) ^ s(w, n - 9))
+        .collect()
+}
+
+fn cable_bits(history: u16, words: &[u16]) -> Vec<bool> {
+    [bits_of(history), bits_of_all(words)].concat()
+}
+
+/// "Scrambling and unscrambling answer the next history too; for no words, the one given."
+fn next_history(w: &[bool]) -> u16 {
+    word_of(&w[w.len() - HISTORY_BITS..])
+}
+
+fn check(history: u16, words: &[u16], output: &[u16]) -> Result<(), Refusal> {
+    refuse(&[
+        (Refusal::Word, !is_word(history)),
+        (Refusal::Word, !all_words(words)),
+        (Refusal::Short, output.len() < words.len()),
+    ])
+}
+
+/// "Beyond what a result fills, a buffer keeps what it held."
+fn fill(output: &mut [u16], result: &[u16]) {
+    output[..result.len()].copy_from_slice(result);
+}
+
+/// Scrambles words into the output and answers the next history.
+pub fn scramble(history: u16, words: &[u16], output: &mut [u16]) -> Result<u16, Refusal> {
+    check(history, words, output)?;
+    let w = scrambled(history, words);
+    fill(output, &words_of(&w[HISTORY_BITS..]));
+    Ok(next_history(&w))
+}
+
+/// Unscrambles words into the output and answers the next history.
+pub fn unscramble(history: u16, words: &[u16], output: &mut [u16]) -> Result<u16, Refusal> {
+    check(history, words, output)?;
+    let w = cable_bits(history, words);
+    fill(output, &words_of(&unscrambled(&w)));
+    Ok(next_history(&w))
+}
+
+/// Scrambles one word; the low ten bits of history and word count.
+pub fn scramble_word(history: u16, word: u16) -> u16 {
+    word_of(&scrambled(history, &[word])[HISTORY_BITS..])
+}
+
+/// Unscrambles one word; the low ten bits of history and word count.
+pub fn unscramble_word(history: u16, word: u16) -> u16 {
+    word_of(&unscrambled(&cable_bits(history, &[word])))
+}
+
+/// "A sync is 20 ones then 40 zeros."
+fn is_sync(bits: &[bool]) -> bool {
+    let (ones, zeros) = bits.split_at(SYNC_ONES);
+    ones.iter().all(|&bit| bit) && zeros.iter().all(|&bit| !bit)
+}
+
+/// "Finding alignment takes unscrambled words and answers the bit place of the first sync, from 0, or none."
+pub fn find_sync(words: &[u16]) -> Result<Option<usize>, Refusal> {
+    refuse(&[(Refusal::Word, !all_words(words))])?;
+    // "found at any bit of the unscrambled stream"
+    Ok(bits_of_all(words)
+        .windows(SYNC_ONES + SYNC_ZEROS)
+        .position(is_sync))
+}
+
+#[cfg(test)]
+mod tests {
+    use super::*;
+
+    #[test]
+    fn number_5_scramble_001_from_zero() {
+        let mut output = [0];
+        assert_eq!(scramble(0, &[0x001], &mut output), Ok(0x21f));
+        assert_eq!(output, [0x21f]);
+    }
+
+    #[test]
+    fn number_6_unscramble_001_000_from_zero() {
+        let mut output = [0, 0];
+        assert_eq!(unscramble(0, &[0x001, 0x000], &mut output), Ok(0x000));
+        assert_eq!(output, [0x263, 0x001]);
+    }
+
+    #[test]
+    fn a_sync_is_found_at_any_bit() {
+        for place in 0..20 {
+            let mut bits = vec![false; 80];
+            bits[place..place + 20].fill(true);
+            assert_eq!(find_sync(&words_of(&bits)), Ok(Some(place)));
+        }
+    }
+}

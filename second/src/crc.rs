@@ -1,0 +1,72 @@
+//! CRC: X^18+X^5+X^4+1, "from zero, each channel alone, lowest bit first".
+
+use crate::refusal::{refuse, Refusal};
+use crate::words::{all_words, bits_of, word_of};
+
+const REGISTER_BITS: usize = 18;
+
+/// "Per bit: if register bit 0 differs from the data bit, shift right by one and xor 23000, else shift right."
+fn after_bit(register: u32, bit: bool) -> u32 {
+    let lowest = register & 1 == 1;
+    if lowest != bit {
+        (register >> 1) ^ 0x23000
+    } else {
+        register >> 1
+    }
+}
+
+/// The register after a word; of the word the low ten bits count.
+pub fn after_word(register: u32, word: u16) -> u32 {
+    bits_of(word).into_iter().fold(register, after_bit)
+}
+
+/// The register after words, refusing nothing.
+pub fn after_words(register: u32, words: &[u16]) -> u32 {
+    words
+        .iter()
+        .fold(register, |register, &word| after_word(register, word))
+}
+
+/// "a carry above 3FFFF"
+fn is_carry(register: u32) -> bool {
+    register <= 0x3ffff
+}
+
+/// The register after words, or refusal 3.
+pub fn checked_after_words(register: u32, words: &[u16]) -> Result<u32, Refusal> {
+    refuse(&[
+        (Refusal::Word, !is_carry(register)),
+        (Refusal::Word, !all_words(words)),
+    ])?;
+    Ok(after_words(register, words))
+}
+
+/// "CR0 holds register bits 8..0, CR1 bits 17..9; bit 9 is the inverse of bit 8."
+pub fn crc_words(register: u32) -> Result<(u16, u16), Refusal> {
+    refuse(&[(Refusal::Word, !is_carry(register))])?;
+    let bits: Vec<bool> = (0..REGISTER_BITS)
+        .map(|place| register >> place & 1 == 1)
+        .collect();
+    Ok((crc_word(&bits[0..9]), crc_word(&bits[9..18])))
+}
+
+fn crc_word(nine: &[bool]) -> u16 {
+    word_of(&[nine, &[!nine[8]]].concat())
+}
+
+#[cfg(test)]
+mod tests {
+    use super::*;
+
+    #[test]
+    fn number_7_no_words() {
+        assert_eq!(checked_after_words(0, &[]), Ok(0));
+        assert_eq!(crc_words(0), Ok((0x200, 0x200)));
+    }
+
+    #[test]
+    fn number_8_the_one_word_200() {
+        assert_eq!(checked_after_words(0, &[0x200]), Ok(0x23000));
+        assert_eq!(crc_words(0x23000), Ok((0x200, 0x118)));
+    }
+}

@@ -1,0 +1,26 @@
+//! The functions' numbers, with the digits the request format's table prints.
+
+pub const ALL_WORDS: u32 = 0x1;
+pub const IS_RESERVED: u32 = 0x2;
+pub const WITH_BIT_NINE: u32 = 0x3;
+pub const STORE: u32 = 0x4;
+
+pub const RASTER_ROW: u32 = 0x10;
+pub const NAME_RASTER: u32 = 0x11;
+pub const V_AND_F: u32 = 0x12;
+
+pub const CRC_AFTER_WORD: u32 = 0x20;
+pub const CRC_CHECKED: u32 = 0x21;
+pub const CRC_WORDS: u32 = 0x22;
+pub const CRC_AFTER_WORDS: u32 = 0x23;
+
+pub const SCRAMBLE: u32 = 0x30;
+pub const UNSCRAMBLE: u32 = 0x31;
+pub const FIND_SYNC: u32 = 0x32;
+pub const SCRAMBLE_WORD: u32 = 0x33;
+pub const UNSCRAMBLE_WORD: u32 = 0x34;
+
+pub const XYZ: u32 = 0x40;
+pub const READ_XYZ: u32 = 0x41;
+pub const LINE_WORDS: u32 = 0x42;
+pub const READ_LINE: u32 = 0x43;

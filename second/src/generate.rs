@@ -1,0 +1,227 @@
+//! Random requests over every function, valid and damaged.
+
+mod codes;
+mod lists;
+mod rasters;
+mod syncs;
+
+use crate::functions::*;
+use crate::random::Random;
+use crate::timing;
+
+type Request = Vec<u32>;
+type Maker = fn(&mut Generator) -> Request;
+
+/// How often each function is asked for; the more there is to get wrong, the oftener.
+const MAKERS: [(u32, Maker); 20] = [
+    (2, Generator::all_words),
+    (1, Generator::is_reserved),
+    (1, Generator::with_bit_nine),
+    (2, Generator::store),
+    (1, Generator::raster_row),
+    (3, Generator::name_raster),
+    (3, Generator::v_and_f),
+    (2, Generator::crc_after_word),
+    (3, Generator::crc_checked),
+    (2, Generator::crc_words),
+    (2, Generator::crc_after_words),
+    (4, Generator::scramble),
+    (4, Generator::unscramble),
+    (6, Generator::find_sync),
+    (2, Generator::scramble_word),
+    (2, Generator::unscramble_word),
+    (1, Generator::xyz),
+    (2, Generator::read_xyz),
+    (3, Generator::line_words),
+    (6, Generator::read_line),
+];
+
+pub struct Generator {
+    random: Random,
+    /// The next of the lines that eleven bits can hold, taken in turn so that all of them come.
+    line: u32,
+}
+
+impl Generator {
+    pub fn new(seed: u64) -> Self {
+        Self {
+            random: Random::new(seed),
+            line: 0,
+        }
+    }
+
+    pub fn request(&mut self) -> Request {
+        let weights: u32 = MAKERS.iter().map(|(weight, _)| weight).sum();
+        let mut chosen = self.random.below(weights);
+        for (weight, maker) in MAKERS {
+            if chosen < weight {
+                return maker(self);
+            }
+            chosen -= weight;
+        }
+        unreachable!("the choice is below the sum of the weights")
+    }
+
+    fn next_line(&mut self) -> u32 {
+        let line = self.line;
+        self.line = (line + 1) % 2048;
+        line
+    }
+
+    fn all_words(&mut self) -> Request {
+        request(&[&[ALL_WORDS], &list(&lists::words(&mut self.random))])
+    }
+
+    fn is_reserved(&mut self) -> Request {
+        vec![IS_RESERVED, lists::near_reserved(&mut self.random).into()]
+    }
+
+    fn with_bit_nine(&mut self) -> Request {
+        vec![WITH_BIT_NINE, lists::any_word(&mut self.random).into()]
+    }
+
+    fn store(&mut self) -> Request {
+        let count = self.random.below(12);
+        let buffer = lists::content(&mut self.random, count as usize);
+        let place = lists::place(&mut self.random, count);
+        let word = lists::any_word(&mut self.random);
+        request(&[&[STORE], &list(&buffer), &[place, word.into()]])
+    }
+
+    fn raster_row(&mut self) -> Request {
+        vec![RASTER_ROW, rasters::code(&mut self.random)]
+    }
+
+    fn name_raster(&mut self) -> Request {
+        request(&[&[NAME_RASTER], &rasters::naming(&mut self.random)])
+    }
+
+    fn v_and_f(&mut self) -> Request {
+        vec![
+            V_AND_F,
+            rasters::code(&mut self.random),
+            rasters::line(&mut self.random),
+        ]
+    }
+
+    fn crc_after_word(&mut self) -> Request {
+        let register = lists::register(&mut self.random);
+        vec![
+            CRC_AFTER_WORD,
+            register,
+            lists::any_word(&mut self.random).into(),
+        ]
+    }
+
+    fn crc_checked(&mut self) -> Request {
+        let register = lists::register(&mut self.random);
+        request(&[
+            &[CRC_CHECKED, register],
+            &list(&lists::words(&mut self.random)),
+        ])
+    }
+
+    fn crc_words(&mut self) -> Request {
+        vec![CRC_WORDS, lists::register(&mut self.random)]
+    }
+
+    fn crc_after_words(&mut self) -> Request {
+        let register = lists::register(&mut self.random);
+        request(&[
+            &[CRC_AFTER_WORDS, register],
+            &list(&lists::words(&mut self.random)),
+        ])
+    }
+
+    fn scramble(&mut self) -> Request {
+        self.scrambler(SCRAMBLE)
+    }
+
+    fn unscramble(&mut self) -> Request {
+        self.scrambler(UNSCRAMBLE)
+    }
+
+    fn scrambler(&mut self, function: u32) -> Request {
+        let history = lists::history(&mut self.random);
+        let words = lists::words(&mut self.random);
+        let output = lists::output(&mut self.random, words.len());
+        request(&[&[function, history.into()], &list(&words), &list(&output)])
+    }
+
+    fn find_sync(&mut self) -> Request {
+        request(&[&[FIND_SYNC], &list(&syncs::words(&mut self.random))])
+    }
+
+    fn scramble_word(&mut self) -> Request {
+        self.one_word(SCRAMBLE_WORD)
+    }
+
+    fn unscramble_word(&mut self) -> Request {
+        self.one_word(UNSCRAMBLE_WORD)
+    }
+
+    fn one_word(&mut self, function: u32) -> Request {
+        let history = lists::any_word(&mut self.random);
+        vec![
+            function,
+            history.into(),
+            lists::any_word(&mut self.random).into(),
+        ]
+    }
+
+    fn xyz(&mut self) -> Request {
+        let fvh = [(); 3].map(|()| self.random.below(2));
+        request(&[&[XYZ], &fvh])
+    }
+
+    fn read_xyz(&mut self) -> Request {
+        vec![READ_XYZ, codes::xyz(&mut self.random).into()]
+    }
+
+    fn line_words(&mut self) -> Request {
+        let line = rasters::line(&mut self.random);
+        vec![LINE_WORDS, rasters::code(&mut self.random), line]
+    }
+
+    fn read_line(&mut self) -> Request {
+        let (ln0, ln1) = if self.random.bit() {
+            timing::encode_line(self.next_line())
+        } else {
+            codes::line_words(&mut self.random)
+        };
+        let code = rasters::code(&mut self.random);
+        vec![READ_LINE, code, ln0.into(), ln1.into()]
+    }
+}
+
+fn request(parts: &[&[u32]]) -> Request {
+    parts.concat()
+}
+
+fn list(words: &[u16]) -> Vec<u32> {
+    let elements = words.iter().map(|&word| u32::from(word));
+    std::iter::once(words.len() as u32)
+        .chain(elements)
+        .collect()
+}
+
+#[cfg(test)]
+mod tests {
+    use super::*;
+    use crate::requests::{answer, format_line};
+
+    #[test]
+    fn the_same_seed_gives_the_same_requests() {
+        let (mut one, mut other) = (Generator::new(5), Generator::new(5));
+        assert!((0..1000).all(|_| one.request() == other.request()));
+    }
+
+    #[test]
+    fn every_request_is_well_formed() {
+        let mut generator = Generator::new(1);
+        for _ in 0..5000 {
+            let line = format_line(&generator.request());
+            assert!(answer(&line).is_ok(), "{line}");
+        }
+    }
+}

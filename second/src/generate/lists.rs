@@ -1,0 +1,143 @@
+//! Words, lists, registers and buffers.
+
+use crate::random::Random;
+
+const EDGES: [u16; 16] = [
+    0x000, 0x001, 0x002, 0x003, 0x004, 0x040, 0x0ff, 0x100, 0x1ff, 0x200, 0x3fb, 0x3fc, 0x3fd,
+    0x3fe, 0x3ff, 0x3ff,
+];
+const ABOVE: [u16; 9] = [
+    0x400, 0x400, 0x401, 0x7ff, 0x800, 0x8000, 0xfc00, 0xfffe, 0xffff,
+];
+const LONG_PLACES: [u32; 4] = [0x1_0000, 0x1_0001, 0x8000_0000, 0xffff_ffff];
+
+/// A word of at most 3FF.
+pub fn word(random: &mut Random) -> u16 {
+    match random.below(8) {
+        0 => random.pick(&EDGES),
+        1 => 1 << random.below(10),
+        _ => random.short(0, 0x3ff),
+    }
+}
+
+/// A number above 3FF.
+pub fn above(random: &mut Random) -> u16 {
+    if random.bit() {
+        random.pick(&ABOVE)
+    } else {
+        random.short(0x400, 0xffff)
+    }
+}
+
+pub fn any_word(random: &mut Random) -> u16 {
+    if random.one_in(3) {
+        above(random)
+    } else {
+        word(random)
+    }
+}
+
+/// Around the reserved codes, and numbers whose low ten bits are one.
+pub fn near_reserved(random: &mut Random) -> u16 {
+    let low = random.pick(&[0, 1, 2, 3, 4, 5, 0x3fa, 0x3fb, 0x3fc, 0x3fd, 0x3fe, 0x3ff]);
+    match random.below(3) {
+        0 => low,
+        1 => low | random.short(0, 0x3f) << 10,
+        _ => any_word(random),
+    }
+}
+
+pub fn history(random: &mut Random) -> u16 {
+    match random.below(6) {
+        0 => 0,
+        1 => random.pick(&[0x3fe, 0x3ff]),
+        2 => above(random),
+        _ => word(random),
+    }
+}
+
+pub fn register(random: &mut Random) -> u32 {
+    match random.below(6) {
+        0 => 0,
+        1 => random.pick(&[0x3fffe, 0x3ffff, 0x20000, 0x23000]),
+        2 => random.pick(&[
+            0x40000,
+            0x40001,
+            0x7ffff,
+            0x8000_0000,
+            0xffff_fffe,
+            0xffff_ffff,
+        ]),
+        3 => random.number(),
+        _ => random.below(0x40000),
+    }
+}
+
+/// A length, mostly short.
+pub fn length(random: &mut Random) -> usize {
+    let length = match random.below(60) {
+        0 => random.between(200, 700),
+        1..=8 => 0,
+        9..=16 => 1,
+        _ => random.between(2, 40),
+    };
+    length as usize
+}
+
+/// Words, one time in three with some of them above 3FF.
+pub fn words(random: &mut Random) -> Vec<u16> {
+    let count = length(random);
+    let mut words: Vec<u16> = match random.below(8) {
+        0 => vec![random.pick(&EDGES); count],
+        _ => (0..count).map(|_| word(random)).collect(),
+    };
+    if random.one_in(3) {
+        damage(random, &mut words);
+    }
+    words
+}
+
+/// Puts one or two numbers above 3FF, often at the first or the last place.
+pub fn damage(random: &mut Random, words: &mut [u16]) {
+    if words.is_empty() {
+        return;
+    }
+    for _ in 0..random.between(1, 2) {
+        let place = match random.below(4) {
+            0 => 0,
+            1 => words.len() - 1,
+            _ => random.place(words.len()),
+        };
+        words[place] = above(random);
+    }
+}
+
+/// What a lent buffer may hold: anything below 2^16.
+pub fn content(random: &mut Random, count: usize) -> Vec<u16> {
+    (0..count).map(|_| random.short(0, 0xffff)).collect()
+}
+
+/// An output for so many words: empty, shorter, equal or longer.
+pub fn output(random: &mut Random, words: usize) -> Vec<u16> {
+    let count = match random.below(8) {
+        0 => 0,
+        1 | 2 => words.saturating_sub(1),
+        3 => random.place(words + 1),
+        4 | 5 => words,
+        6 => words + 1,
+        _ => words + random.place(20),
+    };
+    content(random, count)
+}
+
+/// A place in, at the edge of or beyond a buffer of so many words.
+pub fn place(random: &mut Random, count: u32) -> u32 {
+    match random.below(8) {
+        0 => 0,
+        1 => count.saturating_sub(1),
+        2 => count,
+        3 => count + random.between(1, 3),
+        4 => random.pick(&LONG_PLACES),
+        _ => random.below(count + 1),
+    }
+}

@@ -1,0 +1,34 @@
+//! Refusal numbers and their order.
+
+#[derive(Clone, Copy, Debug, PartialEq, Eq)]
+pub enum Refusal {
+    /// "output or row buffer too short for the result or for T"
+    Short = 1,
+    /// "a word or history above 3FF, a carry above 3FFFF"
+    Word = 3,
+    /// "raster not 0..11"
+    Raster = 4,
+    /// "line not 1..N"
+    Line = 5,
+}
+
+impl Refusal {
+    pub fn number(self) -> u32 {
+        self as u32
+    }
+}
+
+/// "Order where several apply: 7, 9, 4, 5, 2, 3, 6, 8, 1."
+const ORDER: [u32; 9] = [7, 9, 4, 5, 2, 3, 6, 8, 1];
+
+/// The first refusal, in the paper's order, whose condition holds.
+pub fn refuse(conditions: &[(Refusal, bool)]) -> Result<(), Refusal> {
+    for number in ORDER {
+        for &(refusal, holds) in conditions {
+            if holds && refusal.number() == number {
+                return Err(refusal);
+            }
+        }
+    }
+    Ok(())
+}

@@ -1,0 +1,95 @@
+//! Timing codes and line numbers.
+
+use crate::raster::{raster_of, raster_with_line};
+use crate::refusal::{refuse, Refusal};
+use crate::words::{is_word, word_of};
+
+/// "bit 9 is 1; bits 8, 7, 6 are F, V, H; bits 5 to 2 are V^H, F^H, F^V, F^V^H; bits 1, 0 are 0."
+pub fn xyz(f: bool, v: bool, h: bool) -> u16 {
+    word_of(&[false, false, f ^ v ^ h, f ^ v, f ^ h, v ^ h, h, v, f, true])
+}
+
+/// F, V and H of each of the eight codes.
+pub fn codes() -> impl Iterator<Item = (bool, bool, bool)> {
+    (0..8).map(|fvh| (fvh & 4 != 0, fvh & 2 != 0, fvh & 1 != 0))
+}
+
+/// "Reading answers F, V and H, or not exact."
+pub fn read_xyz(word: u16) -> Result<Option<(bool, bool, bool)>, Refusal> {
+    refuse(&[(Refusal::Word, !is_word(word))])?;
+    Ok(codes().find(|&(f, v, h)| xyz(f, v, h) == word))
+}
+
+/// "LN0: bits 8..2 are line bits 6..0. LN1: bits 5..2 are line bits 10..7.
+/// All other low bits are 0; bit 9 is the inverse of bit 8."
+pub fn encode_line(line: u32) -> (u16, u16) {
+    let bit = |place: u32| line >> place & 1 == 1;
+    let ln0 = [
+        false,
+        false,
+        bit(0),
+        bit(1),
+        bit(2),
+        bit(3),
+        bit(4),
+        bit(5),
+        bit(6),
+        !bit(6),
+    ];
+    let ln1 = [
+        false,
+        false,
+        bit(7),
+        bit(8),
+        bit(9),
+        bit(10),
+        false,
+        false,
+        false,
+        true,
+    ];
+    (word_of(&ln0), word_of(&ln1))
+}
+
+/// "Line numbers are built and read under a raster."
+pub fn line_words(code: u32, line: u32) -> Result<(u16, u16), Refusal> {
+    raster_with_line(code, line)?;
+    Ok(encode_line(line))
+}
+
+/// "reading answers the line, or 0 if not exact or not in 1..N"
+pub fn read_line(code: u32, ln0: u16, ln1: u16) -> Result<u32, Refusal> {
+    // 4 comes before 3 in the order.
+    let raster = raster_of(code)?;
+    refuse(&[
+        (Refusal::Word, !is_word(ln0)),
+        (Refusal::Word, !is_word(ln1)),
+    ])?;
+    let line = (1..=raster.rows).find(|&line| encode_line(line) == (ln0, ln1));
+    Ok(line.unwrap_or(0))
+}
+
+#[cfg(test)]
+mod tests {
+    use super::*;
+
+    #[test]
+    fn number_1_the_eight_codes() {
+        let words: Vec<u16> = codes().map(|(f, v, h)| xyz(f, v, h)).collect();
+        assert_eq!(
+            words,
+            [0x200, 0x274, 0x2ac, 0x2d8, 0x31c, 0x368, 0x3b0, 0x3c4]
+        );
+        for (fvh, word) in codes().zip(words) {
+            assert_eq!(read_xyz(word), Ok(Some(fvh)));
+        }
+    }
+
+    #[test]
+    fn numbers_2_to_4_line_words() {
+        for (line, ln0, ln1) in [(1, 0x204, 0x200), (1125, 0x194, 0x220), (64, 0x100, 0x200)] {
+            assert_eq!(line_words(7, line), Ok((ln0, ln1)));
+            assert_eq!(read_line(7, ln0, ln1), Ok(line));
+        }
+    }
+}

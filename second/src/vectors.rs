@@ -33,7 +33,7 @@ pub fn all() -> Vec<Vector> {
     groups.into_iter().flatten().collect()
 }
 
-/// "(1) FVH 000..111 give 200 274 2AC 2D8 31C 368 3B0 3C4", built and read.
+/// "(1) FVH 000..111 give 200 274 2AC 2D8 31C 368 3B0 3C4", built and read; bits 8, 7, 6 are F, V, H (003:939-945).
 fn timing_codes() -> Vec<Vector> {
     let words = [0x200, 0x274, 0x2ac, 0x2d8, 0x31c, 0x368, 0x3b0, 0x3c4];
     (0..8)
@@ -88,7 +88,8 @@ fn crc() -> Vec<Vector> {
     ]
 }
 
-/// The audio DIDs as the data sheets print them: "bit 9 is the inverse of bit 8", asked for with a wrong bit 9.
+/// The audio DIDs as the data sheets print them (000:1911-1919, 002:100, 003:2137-2141): "bit 9 is the inverse of bit 8",
+/// asked for with a wrong bit 9.
 fn nine_bits() -> Vec<Vector> {
     [
         0x2ff, 0x1fd, 0x1fb, 0x2f9, 0x1fe, 0x2fc, 0x2fa, 0x1f8, 0x1ef, 0x2ee, 0x2ed, 0x1ec, 0x2e7,
@@ -143,19 +144,19 @@ fn row_limits() -> Vec<Vector> {
     ]
 }
 
-/// Code, T, A, N, kind and the HANC length the data sheets print for it, which is T-A-12.
+/// Code, T, A, N, kind and the HANC length that document 004 prints for it, on the line beside it; it is T-A-12.
 const ROWS: [[u32; 6]; 11] = [
-    [1, 1650, 1280, 750, 0, 358],
-    [2, 1980, 1280, 750, 0, 688],
-    [3, 3300, 1280, 750, 0, 2008],
-    [4, 3960, 1280, 750, 0, 2668],
-    [5, 4125, 1280, 750, 0, 2833],
-    [6, 2200, 1920, 1125, 1, 268],
-    [7, 2640, 1920, 1125, 1, 708],
-    [8, 2750, 1920, 1125, 1, 818],
-    [9, 2200, 1920, 1125, 0, 268],
-    [10, 2640, 1920, 1125, 0, 708],
-    [11, 2750, 1920, 1125, 0, 818],
+    [1, 1650, 1280, 750, 0, 358],   // 004:1108
+    [2, 1980, 1280, 750, 0, 688],   // 004:1112
+    [3, 3300, 1280, 750, 0, 2008],  // 004:1110
+    [4, 3960, 1280, 750, 0, 2668],  // 004:1114
+    [5, 4125, 1280, 750, 0, 2833],  // 004:1121
+    [6, 2200, 1920, 1125, 1, 268],  // 004:1123
+    [7, 2640, 1920, 1125, 1, 708],  // 004:1125
+    [8, 2750, 1920, 1125, 1, 818],  // 004:1130
+    [9, 2200, 1920, 1125, 0, 268],  // 004:1124
+    [10, 2640, 1920, 1125, 0, 708], // 004:1126
+    [11, 2750, 1920, 1125, 0, 818], // 004:1129
 ];
 
 /// A row's T is asked to be A, the HANC length and the twelve pairs of EAV, LN, CRC and SAV.
@@ -182,19 +183,19 @@ fn named_rasters() -> Vec<Vector> {
         .collect()
 }
 
-/// T, A and N of rasters that the data sheets name and no row of the table fits, each as progressive and
+/// T, A and N of rasters that the data sheets name (000:1191-1260) and no row of the table fits, each as progressive and
 /// as two fields. The A of the extended ones is of general knowledge: any other than the row's would do.
 fn unnamed_rasters() -> Vec<Vector> {
     let counts = [
-        // 1250 rows, also misprinted for 2640 and 5280 words.
+        // 1250 rows (000:1227), also misprinted for 2640 and 5280 words (003:1518, 003:1529).
         [2376, 1920, 1250],
         [2640, 1920, 1250],
         [5280, 1920, 1250],
-        // 2048 active words.
+        // 2048 active words (000:1197, 000:1200).
         [2200, 2048, 1125],
         [2640, 2048, 1125],
         [2750, 2048, 1125],
-        // Extended (EM) rasters: T and N of a row of the table, more active words.
+        // Extended (EM) rasters: T and N of a row of the table, more active words (000:1251).
         [1650, 1440, 750],
         [1980, 1728, 750],
         [3300, 2880, 750],
@@ -202,10 +203,10 @@ fn unnamed_rasters() -> Vec<Vector> {
         [4125, 3600, 750],
         [2640, 2304, 1125],
         [2750, 2400, 1125],
-        // 525 and 625 rows.
+        // 525 and 625 rows (000:1252).
         [1716, 1440, 525],
         [1728, 1440, 625],
-        // Misprints of 1650 and 2200.
+        // Misprints of 1650 and 2200 (002:67, 002:73).
         [1660, 1280, 750],
         [2220, 1920, 1125],
     ];
@@ -217,7 +218,8 @@ fn unnamed_rasters() -> Vec<Vector> {
         .collect()
 }
 
-/// The timing figures' first and last picture lines, and F's change at 564, each with its neighbour.
+/// The timing figures' first and last picture lines (002:67 and 002:69 for 750 rows, 002:68 and 002:70 for two fields,
+/// 002:71-73 for 1125 progressive), and F's change at 564, which no data sheet prints, each with its neighbour.
 fn picture_lines() -> Vec<Vector> {
     let progressive_750 = [(1, 1), (25, 1), (26, 0), (745, 0), (746, 1), (750, 1)];
     let progressive_1125 = [(1, 1), (41, 1), (42, 0), (1121, 0), (1122, 1), (1125, 1)];

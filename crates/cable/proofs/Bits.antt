@@ -46,40 +46,6 @@ pub unscrambled-nil : (p : List Bool) → unscrambled p [] ≡ []
 unfolding unscrambled descrambler unnrzi
 unscrambled-nil p = refl
 
-pub length-scrambled : (ds p : List Bool) → length (scrambled p ds) ≡ length ds
-length-scrambled [] p = ap length (scrambled-nil p)
-length-scrambled (d ∷ ds) p = ap length (scrambled-cons p d ds) ∙ ap suc (length-scrambled ds (cableBit p d ∷ p))
-
-pub length-unscrambled : (ws p : List Bool) → length (unscrambled p ws) ≡ length ws
-length-unscrambled [] p = ap length (unscrambled-nil p)
-length-unscrambled (w ∷ ws) p = ap length (unscrambled-cons p w ws) ∙ ap suc (length-unscrambled ws (w ∷ p))
-
--- ---- there and back
-
-nrzi-back : (w : Bool) (ss : List Bool) → unnrzi w (nrzi w ss) ≡ ss
-unfolding nrzi unnrzi
-nrzi-back w [] = refl
-nrzi-back w (s ∷ ss) = cons-equal (⊕-undo s w) (nrzi-back (s ⊕ w) ss)
-
-scrambler-back : (p ds : List Bool) → descrambler p (scrambler p ds) ≡ ds
-unfolding scrambler descrambler
-scrambler-back p [] = refl
-scrambler-back p (d ∷ ds) = cons-equal (⊕-undo-two d (ago 5 p) (ago 9 p)) (scrambler-back ((d ⊕ ago 5 p ⊕ ago 9 p) ∷ p) ds)
-
-pub unscrambled-of-scrambled : (p ds : List Bool) → unscrambled p (scrambled p ds) ≡ ds
-unfolding scrambled unscrambled
-unscrambled-of-scrambled p ds = ap (descrambler (levels p)) (nrzi-back (ago 1 p) (scrambler (levels p) ds)) ∙ scrambler-back (levels p) ds
-
--- ---- one stream after another
-
-pub scrambled-of-append : (ds es p : List Bool) → scrambled p (ds ++ es) ≡ scrambled p ds ++ scrambled (reverseAux (scrambled p ds) p) es
-scrambled-of-append [] es p = rw scrambled-nil
-scrambled-of-append (d ∷ ds) es p = rw (scrambled-cons p d (ds ++ es), scrambled-cons p d ds, scrambled-of-append ds es (cableBit p d ∷ p))
-
-pub unscrambled-of-append : (ws vs p : List Bool) → unscrambled p (ws ++ vs) ≡ unscrambled p ws ++ unscrambled (reverseAux ws p) vs
-unscrambled-of-append [] vs p = rw unscrambled-nil
-unscrambled-of-append (w ∷ ws) vs p = rw (unscrambled-cons p w (ws ++ vs), unscrambled-cons p w ws, unscrambled-of-append ws vs (w ∷ p))
-
 -- ---- pasts that agree on their latest bits
 
 abbrev pub Agree : ℕ → List Bool → List Bool → Type 0
@@ -106,21 +72,6 @@ unfolding cableBit
 cableBit-of-agree p q d a =
     simp (levels-at, a 0 (omega arith), a 4 (omega arith), a 5 (omega arith), a 8 (omega arith), a 9 (omega arith))
 
-pub unscrambled-of-agree : (ws p q : List Bool) → Agree 10 p q → unscrambled p ws ≡ unscrambled q ws
-unscrambled-of-agree [] p q a = unscrambled-nil p ∙ sym (unscrambled-nil q)
-unscrambled-of-agree (w ∷ ws) p q a =
-    unscrambled-cons p w ws
-    ∙ cons-equal (dataBit-of-agree p q w a) (unscrambled-of-agree ws (w ∷ p) (w ∷ q) (λ k h. agree-cons 10 p q w a k (omega arith)))
-    ∙ sym (unscrambled-cons q w ws)
-
-pub scrambled-of-agree : (ds p q : List Bool) → Agree 10 p q → scrambled p ds ≡ scrambled q ds
-scrambled-of-agree [] p q a = scrambled-nil p ∙ sym (scrambled-nil q)
-scrambled-of-agree (d ∷ ds) p q a =
-    let e : cableBit p d ≡ cableBit q d = cableBit-of-agree p q d a in
-    scrambled-cons p d ds
-    ∙ cons-equal e (ap (λ (b : Bool). scrambled (b ∷ p) ds) e ∙ scrambled-of-agree ds (cableBit q d ∷ p) (cableBit q d ∷ q) (λ k h. agree-cons 10 p q (cableBit q d) a k (omega arith)))
-    ∙ sym (scrambled-cons q d ds)
-
 -- ten bits decide, whatever stands before them
 pub agree-last : (bs p q : List Bool) → length bs ≡ 10 → Agree 10 (reverseAux bs p) (reverseAux bs q)
 agree-last bs p q e k h = at p ∙ sym (at q)
@@ -128,9 +79,81 @@ agree-last bs p q e k h = at p ∙ sym (at q)
     at : (r : List Bool) → getD (reverseAux bs r) k false ≡ getD (reverse bs) k false
     at r = rw (reverseAux-eq bs r) (List·getD-append (reverse bs) r false k (omega (arith, length-reverse bs)))
 
+-- ---- a code: bits from bits, after past cable bits; each bit that it gives, and the cable bit that then joins the past
+
+abbrev pub Code : Type 0
+Code = List Bool → List Bool → List Bool
+
+abbrev pub BitCode : Type 0
+BitCode = List Bool → Bool → Bool
+
+pub record Bitwise (code : Code) (bit joins : BitCode) : Type 0 where
+  pub nil : (p : List Bool) → code p [] ≡ []
+  pub cons : (p : List Bool) (b : Bool) (bs : List Bool) → code p (b ∷ bs) ≡ bit p b ∷ code (joins p b ∷ p) bs
+  pub bit-of-agree : (p q : List Bool) (b : Bool) → Agree 10 p q → bit p b ≡ bit q b
+  pub joins-of-agree : (p q : List Bool) (b : Bool) → Agree 10 p q → joins p b ≡ joins q b
+
+module _ {code : Code} {bit joins : BitCode} (c : Bitwise code bit joins) where
+  pub length-code : (bs p : List Bool) → length (code p bs) ≡ length bs
+  length-code [] p = ap length (c .nil p)
+  length-code (b ∷ bs) p = ap length (c .cons p b bs) ∙ ap suc (length-code bs (joins p b ∷ p))
+
+  -- what joins the past is a code too: the cable bits
+  pub code-of-append : {cable : Code} → Bitwise cable joins joins → (bs cs p : List Bool) → code p (bs ++ cs) ≡ code p bs ++ code (reverseAux (cable p bs) p) cs
+  code-of-append k [] cs p = rw (c .nil p, k .nil p)
+  code-of-append k (b ∷ bs) cs p = rw (c .cons p b (bs ++ cs), c .cons p b bs, k .cons p b bs, code-of-append k bs cs (joins p b ∷ p))
+
+  pub code-of-agree : (bs p q : List Bool) → Agree 10 p q → code p bs ≡ code q bs
+  code-of-agree [] p q a = c .nil p ∙ sym (c .nil q)
+  code-of-agree (b ∷ bs) p q a =
+      let e : joins p b ≡ joins q b = c .joins-of-agree p q b a in
+      c .cons p b bs
+      ∙ cons-equal (c .bit-of-agree p q b a) (ap (λ (x : Bool). code (x ∷ p) bs) e ∙ code-of-agree bs (joins q b ∷ p) (joins q b ∷ q) (λ k h. agree-cons 10 p q (joins q b) a k (omega arith)))
+      ∙ sym (c .cons q b bs)
+
+-- scrambling makes the cable bits, unscrambling takes them
+abbrev pub takenBit : BitCode
+takenBit p w = w
+
+abbrev pub taken : Code
+taken p ws = ws
+
+pub scrambled-bitwise : Bitwise scrambled cableBit cableBit
+scrambled-bitwise = record { nil = scrambled-nil; cons = scrambled-cons; bit-of-agree = cableBit-of-agree; joins-of-agree = cableBit-of-agree }
+
+pub unscrambled-bitwise : Bitwise unscrambled dataBit takenBit
+unscrambled-bitwise = record { nil = unscrambled-nil; cons = unscrambled-cons; bit-of-agree = dataBit-of-agree; joins-of-agree = λ p q w a. refl }
+
+pub taken-bitwise : Bitwise taken takenBit takenBit
+taken-bitwise = record { nil = λ p. refl; cons = λ p w ws. refl; bit-of-agree = λ p q w a. refl; joins-of-agree = λ p q w a. refl }
+
+pub length-unscrambled : (ws p : List Bool) → length (unscrambled p ws) ≡ length ws
+length-unscrambled = length-code unscrambled-bitwise
+
+pub unscrambled-of-append : (ws vs p : List Bool) → unscrambled p (ws ++ vs) ≡ unscrambled p ws ++ unscrambled (reverseAux ws p) vs
+unscrambled-of-append = code-of-append unscrambled-bitwise taken-bitwise
+
+-- ---- there and back
+
+nrzi-back : (w : Bool) (ss : List Bool) → unnrzi w (nrzi w ss) ≡ ss
+unfolding nrzi unnrzi
+nrzi-back w [] = refl
+nrzi-back w (s ∷ ss) = cons-equal (⊕-undo s w) (nrzi-back (s ⊕ w) ss)
+
+scrambler-back : (p ds : List Bool) → descrambler p (scrambler p ds) ≡ ds
+unfolding scrambler descrambler
+scrambler-back p [] = refl
+scrambler-back p (d ∷ ds) = cons-equal (⊕-undo-two d (ago 5 p) (ago 9 p)) (scrambler-back ((d ⊕ ago 5 p ⊕ ago 9 p) ∷ p) ds)
+
+pub unscrambled-of-scrambled : (p ds : List Bool) → unscrambled p (scrambled p ds) ≡ ds
+unfolding scrambled unscrambled
+unscrambled-of-scrambled p ds = ap (descrambler (levels p)) (nrzi-back (ago 1 p) (scrambler (levels p) ds)) ∙ scrambler-back (levels p) ds
+
+-- ---- whatever stood before
+
 -- "From any two histories, unscrambled bits agree from the eleventh on."
 agree-from : (ws : List Bool) (n j : ℕ) → n + j ≡ 10 → (p q : List Bool) → Agree n p q → drop j (unscrambled p ws) ≡ drop j (unscrambled q ws)
-agree-from ws n zero e p q a = unscrambled-of-agree ws p q (λ k h. a k (omega arith))
+agree-from ws n zero e p q a = code-of-agree unscrambled-bitwise ws p q (λ k h. a k (omega arith))
 agree-from [] n (suc j) e p q a = ap (drop (suc j)) (unscrambled-nil p ∙ sym (unscrambled-nil q))
 agree-from (w ∷ ws) n (suc j) e p q a =
     rw (unscrambled-cons p w ws, unscrambled-cons q w ws) (agree-from ws (suc n) j (omega arith) (w ∷ p) (w ∷ q) (agree-cons n p q w a))

@@ -1,5 +1,6 @@
 pub mod Bits
 pub mod Codes
+pub mod Coding
 pub mod Words
 pub mod FirstSync
 pub mod Search

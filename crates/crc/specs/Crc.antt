@@ -14,6 +14,7 @@ use Rattle.crc.specs.declared.CrcWords.{CrcWords}
 unfoldable pub crcBit : ℕ → Bool → ℕ
 crcBit r b = if (odd r ⊕ b) (bitXor (r / 2) 0x23000) (r / 2)
 
+-- bit after bit
 unfoldable pub crcBits : ℕ → List Bool → ℕ
 crcBits r [] = r
 crcBits r (b ∷ bs) = crcBits (crcBit r b) bs
@@ -22,6 +23,7 @@ crcBits r (b ∷ bs) = crcBits (crcBit r b) bs
 unfoldable pub crcWord : ℕ → ℕ → ℕ
 crcWord r w = crcBits r (bits 10 w)
 
+-- word after word
 unfoldable pub crcWords : ℕ → List ℕ → ℕ
 crcWords r [] = r
 crcWords r (w ∷ ws) = crcWords (crcWord r w) ws

@@ -1,8 +1,8 @@
 // Any two answers that a contract allows are equal: each public function is called twice on equal arguments, and
 // equal answers and equal buffers follow from its contract alone.
 ghost use mathlib.Core.Path.{_≡_};
+use align::Sync;
 use cable::Coded;
-use cable::Sync;
 use crc::CrcWords;
 use crc::Ran;
 use raster::Kind;
@@ -171,8 +171,8 @@ pub fn unscramble_word(history: u16, word: u16) -> Words
 pub fn find_sync(words: &[u16]) -> TwoSyncs
     ensures { λ r. ⌜ r .first ≡ r .second ⌝ }
 {
-    let first = cable::find_sync(words);
-    let second = cable::find_sync(words);
+    let first = align::find_sync(words);
+    let second = align::find_sync(words);
     TwoSyncs { first, second }
 }
 

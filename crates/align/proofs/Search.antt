@@ -15,11 +15,11 @@ use Rattle.bits.specs.Choice.{if}
 use Rattle.bits.specs.Bits.{odd, bits, number, wordBits}
 use Rattle.bits.proofs.Bits.{digit-odd, length-bits, number-half, number-append}
 use Rattle.raster.specs.Layout.{syncOf, hdUnit}
-use Rattle.cable.specs.declared.Searched.{Searched}
-use Rattle.cable.specs.declared.Searched.the-variants.{Ends, Last}
-use Rattle.cable.specs.Sync.{startsWith, later, firstPlace, firstSync}
-use Rattle.cable.specs.Search.{slid, searched}
-use Rattle.cable.proofs.FirstSync.{no-place, after, after-zero, after-later, first-here, first-there, first-of-short, first-after-zeros}
+use Rattle.align.specs.declared.Searched.{Searched}
+use Rattle.align.specs.declared.Searched.the-variants.{Ends, Last}
+use Rattle.align.specs.Sync.{startsWith, later, firstPlace, firstSync}
+use Rattle.align.specs.Search.{slid, searched}
+use Rattle.align.proofs.FirstSync.{no-place, after, after-zero, after-later, first-here, first-there, first-of-short, first-after-zeros}
 
 -- ---- searched: a turn of the loop, at the word's lowest bit, and its end
 

@@ -2,10 +2,10 @@ use mathlib.Core.Path.{_≡_, ap₂}
 use Prim.Native.Nat.{_+_, _-_, _/_, _%_}
 use native.Mathlib.Omega.{arith}
 use borrow.Author.Needs.{needs}
-use Rattle.cable.specs.declared.Sync.the-variants.{At}
-use Rattle.cable.specs.Search.{placeEnding}
-use Rattle.cable.proofs.place_before.Statement.{statement}
-use Rattle.cable.proofs.place_before.Tie as tie
+use Rattle.align.specs.declared.Sync.the-variants.{At}
+use Rattle.align.specs.Search.{placeEnding}
+use Rattle.align.proofs.place_before.Statement.{statement}
+use Rattle.align.proofs.place_before.Tie as tie
 
 returns : tie.Need-returns
 returns c =

@@ -5,8 +5,8 @@ use Prim.Native.Nat.{ℕ, suc, _+_, _-_, _*_, _/_}
 use lib.Dec.{eqb}
 use Rattle.bits.specs.Choice.{if}
 use Rattle.bits.specs.Bits.{digit}
-use Rattle.cable.specs.declared.Searched.{Searched}
-use Rattle.cable.specs.declared.Searched.the-variants.{Ends, Last}
+use Rattle.align.specs.declared.Searched.{Searched}
+use Rattle.align.specs.declared.Searched.the-variants.{Ends, Last}
 
 -- the last sixty bits as a number, oldest lowest, after one bit more
 abbrev pub slid : ℕ → Bool → ℕ

@@ -12,8 +12,8 @@ use Rattle.bits.specs.Choice.{if}
 use Rattle.bits.specs.Bits.{_⊕_, bits, wordBits, odd}
 use Rattle.bits.specs.Words.{words10}
 use Rattle.raster.specs.Layout.{syncOf}
-use Rattle.cable.specs.declared.Sync.the-variants.{Refused, At}
-use Rattle.cable.specs.Sync.{startsWith, later, firstPlace, firstSync, syncRefusal, syncPlace, syncAt, foundSync}
+use Rattle.align.specs.declared.Sync.the-variants.{Refused, At}
+use Rattle.align.specs.Sync.{startsWith, later, firstPlace, firstSync, syncRefusal, syncPlace, syncAt, foundSync}
 
 clash : {A : Type 0} → false ≡ true → A
 clash h = let z : _≡_ {A = ℕ} 0 1 = cc in absurd (omega arith)

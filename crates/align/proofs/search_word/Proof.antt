@@ -2,10 +2,10 @@ use mathlib.Core.Path.{_≡_, refl, sym, _∙_}
 use Prim.Native.Nat.{_-_, _^_, _≤_, _<_}
 use native.Mathlib.Omega.{arith}
 use Rattle.bits.specs.Bits.{bits}
-use Rattle.cable.specs.Search.{searched}
-use Rattle.cable.proofs.Search.{searched-stop, searched-step, searched-end}
-use Rattle.cable.proofs.search_word.Statement.{statement}
-use Rattle.cable.proofs.search_word.Tie as tie
+use Rattle.align.specs.Search.{searched}
+use Rattle.align.proofs.Search.{searched-stop, searched-step, searched-end}
+use Rattle.align.proofs.search_word.Statement.{statement}
+use Rattle.align.proofs.search_word.Tie as tie
 
 abbrev Inv-loop : tie.InvT-loop
 Inv-loop last word l₀ w₀ bit₀ l w bit = (bit ≤ 10) × (l < 2 ^ 64) × (searched bit l (bits (10 - bit) w) ≡ searched 0 last (bits 10 word))

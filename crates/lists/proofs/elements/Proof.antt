@@ -1,8 +1,8 @@
 use Prim.Native.Nat.{_≤_, _-_}
 use lib.ListN.{length}
 use borrow.Author.Needs.{needs}
-use Rattle.answers.proofs.elements.Statement.{statement}
-use Rattle.answers.proofs.elements.Tie as tie
+use Rattle.lists.proofs.elements.Statement.{statement}
+use Rattle.lists.proofs.elements.Tie as tie
 
 abbrev Inv-loop : tie.InvT-loop
 Inv-loop words i₀ i = i ≤ length words

@@ -7,8 +7,8 @@ use Rattle.bits.specs.Choice.{if}
 use Rattle.bits.specs.Bits.{_⊕_, wordBits}
 use Rattle.bits.specs.Words.{words10}
 use Rattle.raster.specs.Layout.{syncOf, hdUnit}
-use Rattle.cable.specs.declared.Sync.{Sync}
-use Rattle.cable.specs.declared.Sync.the-variants.{Refused, Nothing, At}
+use Rattle.align.specs.declared.Sync.{Sync}
+use Rattle.align.specs.declared.Sync.the-variants.{Refused, Nothing, At}
 
 -- the bits begin with the pattern
 unfoldable pub startsWith : List Bool → List Bool → Bool

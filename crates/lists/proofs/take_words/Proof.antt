@@ -2,8 +2,8 @@ use mathlib.Core.Path.{_≡_}
 use Prim.Native.Nat.{_≤_, _-_}
 use lib.ListN.{length}
 use borrow.Author.Needs.{needs}
-use Rattle.answers.proofs.take_words.Statement.{statement}
-use Rattle.answers.proofs.take_words.Tie as tie
+use Rattle.lists.proofs.take_words.Statement.{statement}
+use Rattle.lists.proofs.take_words.Tie as tie
 
 abbrev Inv-loop : tie.InvT-loop
 Inv-loop args at words₀ count n₀ words n = (length words ≡ length words₀) × (n ≤ length words₀)

@@ -9,13 +9,13 @@ use borrow.Author.Tests.{not-true, not-false}
 use Rattle.bits.specs.Choice.{if}
 use Rattle.bits.specs.Bits.{bits, wordBits}
 use Rattle.bits.specs.Words.{words10}
-use Rattle.cable.specs.declared.Sync.{Sync}
-use Rattle.cable.specs.declared.Sync.the-variants.{Refused, Nothing}
-use Rattle.cable.specs.Sync.{firstSync, foundSync, syncRefusal, syncPlace, syncAt}
-use Rattle.cable.proofs.FirstSync.{found-words, found-refused, found-refusal, found-place}
-use Rattle.cable.proofs.Search.{ends, ends-stop, ends-step, ends-end, searched-lt, sync-from-end, sync-from-none}
-use Rattle.cable.proofs.find_sync.Statement.{statement}
-use Rattle.cable.proofs.find_sync.Tie as tie
+use Rattle.align.specs.declared.Sync.{Sync}
+use Rattle.align.specs.declared.Sync.the-variants.{Refused, Nothing}
+use Rattle.align.specs.Sync.{firstSync, foundSync, syncRefusal, syncPlace, syncAt}
+use Rattle.align.proofs.FirstSync.{found-words, found-refused, found-refusal, found-place}
+use Rattle.align.proofs.Search.{ends, ends-stop, ends-step, ends-end, searched-lt, sync-from-end, sync-from-none}
+use Rattle.align.proofs.find_sync.Statement.{statement}
+use Rattle.align.proofs.find_sync.Tie as tie
 
 -- both clauses of the contract, from the first
 answered : (ws : List ℕ) (r : Sync) → r ≡ foundSync ws

@@ -1,0 +1,2 @@
+pub mod FirstSync
+pub mod Search

@@ -104,7 +104,7 @@ fn line_limit(n: u32) {
     number(b" of raster 1: refusal ", made.refusal as u32);
 }
 
-// A raster's row of the table, and how many of its pairs are blanking.
+// A raster's row of the table.
 fn row(code: u32) {
     let looked = raster::raster_of(code);
     let found = looked.raster;

@@ -3,7 +3,7 @@ use mathlib.Core.Path.{_≡_, refl, sym, ap, ap₂, _∙_}
 use mathlib.Core.Bool.{Bool}
 use Prim.Native.Nat.{ℕ, _+_, _*_, _/_}
 use lib.Arith.{bin-ind}
-use lib.Bits.{bitXor, differ, xor-step, xor-shr, xor-comm, xor-zero-l, xor-zero-r, xor-self}
+use lib.Bits.{bitXor, differ, xor-step, xor-shr, xor-comm}
 use Rattle.bits.specs.Bits.{_⊕_, digit, odd}
 use Rattle.bits.proofs.Bits.{digit-odd, odd-digit, differ-digit, halves, ⊕-assoc}
 
@@ -30,8 +30,3 @@ xor-swap a b c d =
     xor-assoc a b (bitXor c d)
     ∙ ap (bitXor a) (sym (xor-assoc b c d) ∙ ap (λ (x : ℕ). bitXor x d) (xor-comm b c) ∙ xor-assoc c b d)
     ∙ sym (xor-assoc a c (bitXor b d))
-
--- numbers that do not differ are equal
-pub xor-zero-same : (a b : ℕ) → bitXor a b ≡ 0 → a ≡ b
-xor-zero-same a b e =
-    sym (xor-zero-r a) ∙ ap (bitXor a) (sym (xor-self b)) ∙ sym (xor-assoc a b b) ∙ ap (λ (k : ℕ). bitXor k b) e ∙ xor-zero-l b

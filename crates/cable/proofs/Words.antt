@@ -17,7 +17,7 @@ use Rattle.cable.specs.Words.{scrambleWords, unscrambleWords, scrambleWo
 use Rattle.bits.proofs.Lists.{cons-equal}
 use Rattle.bits.proofs.Words.{words10-head, words10-tail}
 use Rattle.cable.proofs.Bits.{cableBit, dataBit, takenBit, taken, scrambled-bitwise, unscrambled-bitwise, taken-bitwise, unscrambled-of-scrambled, unscrambled-from-eleventh}
-use Rattle.cable.proofs.Coding.{Coding, word-bits, words-nil, words-step, length-words, words-range, words-bits, next-nil, next-none, next-step, next-range, words-of-append, next-of-append}
+use Rattle.cable.proofs.Coding.{Coding, word-bits, words-nil, words-step, length-words, words-range, words-bits, next-none, next-step, next-range, words-of-append, next-of-append}
 
 -- ---- the two codings: the history after a word is the word made, or the word taken
 
@@ -77,14 +77,6 @@ scramble-next-step = next-step scrambling
 pub unscramble-next-step : (h w : ℕ) (ws : List ℕ) → unscrambleNext h (w ∷ ws) ≡ unscrambleNext w ws
 unfolding unscrambleNext
 unscramble-next-step = next-step unscrambling
-
-pub scramble-next-nil : (h : ℕ) → scrambleNext h [] ≡ h % 1024
-unfolding scrambleNext
-scramble-next-nil = next-nil scrambling
-
-pub unscramble-next-nil : (h : ℕ) → unscrambleNext h [] ≡ h % 1024
-unfolding unscrambleNext
-unscramble-next-nil = next-nil unscrambling
 
 -- "for no words, the one given"
 pub scramble-next-none : (h : ℕ) → h ≤ 0x3ff → scrambleNext h [] ≡ h

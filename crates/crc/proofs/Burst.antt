@@ -8,12 +8,11 @@ use native.Mathlib.Omega.{arith}
 use native.Mathlib.Nat.{pow-suc, zero-add}
 use lib.Pow.{pow-mono}
 use lib.ListN.{length}
-use lib.Bits.{bitXor, xor-self, xor-block, xor-lt}
+use lib.Bits.{bitXor, xor-self, xor-block}
 use Rattle.bits.specs.Choice.{if}
 use Rattle.bits.specs.Bits.{_⊕_, odd, xors}
 use Rattle.bits.proofs.Bits.{⊕-self, length-xors}
 use Rattle.crc.specs.Crc.{crcBit, crcBits, cr0, cr1}
-use Rattle.bits.proofs.Xor.{xor-zero-same}
 use Rattle.crc.proofs.Steps.{crc-of-append}
 use Rattle.crc.proofs.Linear.{crc-linear, crc-difference}
 use Rattle.crc.proofs.Range.{crcBit-range, crc-range}
@@ -83,13 +82,6 @@ kept : (e : ℕ) (z : List Bool) → e < 2 ^ 18 → crcBits e (xors z z) ≡ 0 �
 unfolding crcBits xors
 kept e [] he q = q
 kept e (b ∷ z) he q = kept-bit e he (kept (crcBit e false) z (crcBit-range e false he) (rw (⊕-self b) at q))
-
--- registers that equal bits bring to one register were one register
-pub crc-injective : (r q : ℕ) (z : List Bool) → r < 2 ^ 18 → q < 2 ^ 18 → crcBits r z ≡ crcBits q z → r ≡ q
-crc-injective r q z hr hq e =
-    xor-zero-same r q
-    (kept (bitXor r q) z (xor-lt 18 r q hr hq)
-    (crc-linear r q z z refl ∙ ap (λ (k : ℕ). bitXor k (crcBits q z)) e ∙ xor-self (crcBits q z)))
 
 -- ---- the theorem, for lists of any length
 

@@ -26,6 +26,8 @@ pub fn all() -> Vec<Vector> {
         word_limits(),
         row_limits(),
         rasters(),
+        places(),
+        blanked(),
         named_rasters(),
         unnamed_rasters(),
         picture_lines(),
@@ -175,6 +177,40 @@ fn rasters() -> Vec<Vector> {
     vectors
 }
 
+/// Where a row's parts stand, counted from the first active word: the EAV's XYZ at A+3, the SAV's at T-1. T and A are
+/// asked to be what these places make them.
+fn places() -> Vec<Vector> {
+    [
+        (5, 1283, 4124), // 003:1043
+        (4, 1283, 3959), // 003:1044
+        (3, 1283, 3299), // 003:1045
+        (2, 1283, 1979), // 003:1046
+        (1, 1283, 1649), // 003:1047
+    ]
+    .into_iter()
+    .map(|(code, eav, sav)| vector(&[RASTER_ROW, code], &[0, code, sav + 1, eav - 3, 750, 0]))
+    .collect()
+}
+
+/// T-A, the words that are not active (003:1001 for two fields, 003:1027 for progressive).
+fn blanked() -> Vec<Vector> {
+    [
+        (6, 280, 1),
+        (7, 720, 1),
+        (9, 280, 0),
+        (10, 720, 0),
+        (11, 830, 0),
+    ]
+    .into_iter()
+    .map(|(code, blanked, kind)| {
+        vector(
+            &[RASTER_ROW, code],
+            &[0, code, 1920 + blanked, 1920, 1125, kind],
+        )
+    })
+    .collect()
+}
+
 fn named_rasters() -> Vec<Vector> {
     ROWS.iter()
         .map(|&[code, total, active, rows, kind, _]| {
@@ -183,32 +219,31 @@ fn named_rasters() -> Vec<Vector> {
         .collect()
 }
 
-/// T, A and N of rasters that the data sheets name (000:1191-1260) and no row of the table fits, each as progressive and
-/// as two fields. The A of the extended ones is of general knowledge: any other than the row's would do.
+/// T, A and N of rasters that the data sheets print and no row of the table fits, each as progressive and as two fields.
 fn unnamed_rasters() -> Vec<Vector> {
     let counts = [
-        // 1250 rows (000:1227), also misprinted for 2640 and 5280 words (003:1518, 003:1529).
-        [2376, 1920, 1250],
-        [2640, 1920, 1250],
-        [5280, 1920, 1250],
-        // 2048 active words (000:1197, 000:1200).
-        [2200, 2048, 1125],
-        [2640, 2048, 1125],
-        [2750, 2048, 1125],
-        // Extended (EM) rasters: T and N of a row of the table, more active words (000:1251).
-        [1650, 1440, 750],
-        [1980, 1728, 750],
-        [3300, 2880, 750],
-        [3960, 3456, 750],
-        [4125, 3600, 750],
-        [2640, 2304, 1125],
-        [2750, 2400, 1125],
-        // 525 and 625 rows (000:1252).
-        [1716, 1440, 525],
-        [1728, 1440, 625],
-        // Misprints of 1650 and 2200 (002:67, 002:73).
-        [1660, 1280, 750],
-        [2220, 1920, 1125],
+        // 1250 rows, also misprinted for rasters of 2640 and 5280 words.
+        [2376, 1920, 1250], // 000:1227
+        [2640, 1920, 1250], // 003:1529
+        [5280, 3840, 1250], // 003:1518
+        // 2048 active words.
+        [2200, 2048, 1125], // 000:1197
+        [2640, 2048, 1125], // 000:1198
+        [2750, 2048, 1125], // 000:1199
+        // Extended (EM) rasters: T and N of a row of the table, more active words.
+        [1650, 1440, 750],  // 000:1251
+        [1980, 1728, 750],  // 000:1245
+        [3300, 2880, 750],  // 000:1243
+        [3960, 3456, 750],  // 000:1247
+        [4125, 3600, 750],  // 000:1249
+        [2640, 2304, 1125], // 000:1234
+        [2750, 2400, 1125], // 000:1236
+        // 525 rows; and 625, a count that the data sheet's line does not print.
+        [1716, 1440, 525], // 000:1252
+        [1728, 1440, 625], // 000:1256
+        // Misprints of 1650 and 2200.
+        [1660, 1280, 750],  // 002:67
+        [2220, 1920, 1125], // 002:73
     ];
     counts
         .into_iter()

@@ -1,5 +1,6 @@
 //! A request's numbers, read one after another.
 
+use crate::crc::Carry;
 use std::vec::IntoIter;
 
 pub struct Arguments(IntoIter<u32>);
@@ -23,6 +24,12 @@ impl Arguments {
         u16::try_from(number).map_err(|_| format!("{number:x} is not below 2^16"))
     }
 
+    /// "a byte is below 2^8"
+    pub fn byte(&mut self) -> Result<u8, String> {
+        let number = self.number()?;
+        u8::try_from(number).map_err(|_| format!("{number:x} is not below 2^8"))
+    }
+
     /// "a flag is 0 or 1"
     pub fn flag(&mut self) -> Result<bool, String> {
         match self.number()? {
@@ -36,6 +43,28 @@ impl Arguments {
     pub fn list(&mut self) -> Result<Vec<u16>, String> {
         let count = self.number()?;
         (0..count).map(|_| self.word()).collect()
+    }
+
+    /// "the count of runs, then for each run how many times (at least 1) and the word"
+    pub fn runs(&mut self) -> Result<Vec<u16>, String> {
+        let mut words = Vec::new();
+        for _ in 0..self.number()? {
+            let times = self.number()? as usize;
+            if times == 0 {
+                return Err("a run of no words".to_string());
+            }
+            words.resize(words.len() + times, self.word()?);
+        }
+        Ok(words)
+    }
+
+    /// "1 and the registers of Y and C, or `0 0 0` for none"
+    pub fn carry(&mut self) -> Result<Option<Carry>, String> {
+        match (self.flag()?, [self.number()?, self.number()?]) {
+            (true, registers) => Ok(Some(registers)),
+            (false, [0, 0]) => Ok(None),
+            (false, _) => Err("registers of no carry".to_string()),
+        }
     }
 
     pub fn end(&mut self) -> Result<(), String> {

@@ -4,7 +4,7 @@
 //! "the last ten cable bits as one word, oldest lowest".
 
 use crate::refusal::{refuse, Refusal};
-use crate::words::{all_words, bits_of, bits_of_all, is_word, word_of, words_of, WORD_BITS};
+use crate::words::{all_words, bits_of, bits_of_all, fill, is_word, word_of, words_of, WORD_BITS};
 
 const HISTORY_BITS: usize = WORD_BITS;
 const SYNC_ONES: usize = 20;
@@ -50,11 +50,6 @@ fn check(history: u16, words: &[u16], output: &[u16]) -> Result<(), Refusal> {
         (Refusal::Word, !all_words(words)),
         (Refusal::Short, output.len() < words.len()),
     ])
-}
-
-/// "Beyond what a result fills, a buffer keeps what it held."
-fn fill(output: &mut [u16], result: &[u16]) {
-    output[..result.len()].copy_from_slice(result);
 }
 
 /// Scrambles words into the output and answers the next history.

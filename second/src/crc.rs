@@ -27,8 +27,11 @@ pub fn after_words(register: u32, words: &[u16]) -> u32 {
         .fold(register, |register, &word| after_word(register, word))
 }
 
+/// "The carry is each channel's CRC register after a row's active words": that of Y, then that of C.
+pub type Carry = [u32; 2];
+
 /// "a carry above 3FFFF"
-fn is_carry(register: u32) -> bool {
+pub fn is_carry(register: u32) -> bool {
     register <= 0x3ffff
 }
 
@@ -41,13 +44,18 @@ pub fn checked_after_words(register: u32, words: &[u16]) -> Result<u32, Refusal>
     Ok(after_words(register, words))
 }
 
-/// "CR0 holds register bits 8..0, CR1 bits 17..9; bit 9 is the inverse of bit 8."
+/// The CRC words of a register, or refusal 3.
 pub fn crc_words(register: u32) -> Result<(u16, u16), Refusal> {
     refuse(&[(Refusal::Word, !is_carry(register))])?;
+    Ok(encode(register))
+}
+
+/// "CR0 holds register bits 8..0, CR1 bits 17..9; bit 9 is the inverse of bit 8."
+pub fn encode(register: u32) -> (u16, u16) {
     let bits: Vec<bool> = (0..REGISTER_BITS)
         .map(|place| register >> place & 1 == 1)
         .collect();
-    Ok((crc_word(&bits[0..9]), crc_word(&bits[9..18])))
+    (crc_word(&bits[0..9]), crc_word(&bits[9..18]))
 }
 
 fn crc_word(nine: &[bool]) -> u16 {

@@ -4,6 +4,9 @@ pub const ALL_WORDS: u32 = 0x1;
 pub const IS_RESERVED: u32 = 0x2;
 pub const WITH_BIT_NINE: u32 = 0x3;
 pub const STORE: u32 = 0x4;
+pub const PART: u32 = 0x5;
+pub const SAME: u32 = 0x6;
+pub const LAY: u32 = 0x7;
 
 pub const RASTER_ROW: u32 = 0x10;
 pub const NAME_RASTER: u32 = 0x11;
@@ -24,3 +27,19 @@ pub const XYZ: u32 = 0x40;
 pub const READ_XYZ: u32 = 0x41;
 pub const LINE_WORDS: u32 = 0x42;
 pub const READ_LINE: u32 = 0x43;
+
+pub const BUILD_PACKET: u32 = 0x50;
+pub const FIND_PACKET: u32 = 0x51;
+pub const EXTRACT: u32 = 0x52;
+pub const PACKET_AT: u32 = 0x53;
+pub const SCAN: u32 = 0x54;
+pub const CHECKSUM: u32 = 0x55;
+pub const WIPE: u32 = 0x56;
+pub const RIGHT_CHECKSUMS: u32 = 0x57;
+
+pub const CHECK_ROW: u32 = 0x60;
+pub const CORRECT_ROW: u32 = 0x61;
+pub const BUILD_ROW: u32 = 0x62;
+pub const JUDGE_ROW: u32 = 0x63;
+pub const ROW_REFUSAL: u32 = 0x64;
+pub const ROW_LAYOUT: u32 = 0x65;

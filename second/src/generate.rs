@@ -1,8 +1,16 @@
 //! Random requests over every function, valid and damaged.
 
 mod codes;
+#[cfg(test)]
+mod coverage;
+mod faults;
 mod lists;
+mod packet_requests;
+mod pieces;
 mod rasters;
+mod regions;
+mod row_requests;
+mod rows;
 mod syncs;
 
 use crate::functions::*;
@@ -13,11 +21,14 @@ type Request = Vec<u32>;
 type Maker = fn(&mut Generator) -> Request;
 
 /// How often each function is asked for; the more there is to get wrong, the oftener.
-const MAKERS: [(u32, Maker); 20] = [
+const MAKERS: [(u32, Maker); 37] = [
     (2, Generator::all_words),
     (1, Generator::is_reserved),
     (1, Generator::with_bit_nine),
     (2, Generator::store),
+    (2, Generator::part),
+    (1, Generator::same),
+    (2, Generator::lay),
     (1, Generator::raster_row),
     (3, Generator::name_raster),
     (3, Generator::v_and_f),
@@ -34,6 +45,20 @@ const MAKERS: [(u32, Maker); 20] = [
     (2, Generator::read_xyz),
     (3, Generator::line_words),
     (6, Generator::read_line),
+    (5, Generator::build_packet),
+    (10, Generator::find_packet),
+    (10, Generator::extract),
+    (4, Generator::packet_at),
+    (10, Generator::scan),
+    (2, Generator::checksum),
+    (5, Generator::wipe),
+    (5, Generator::right_checksums),
+    (13, Generator::check_row),
+    (16, Generator::correct_row),
+    (12, Generator::build_row),
+    (13, Generator::judge_row),
+    (4, Generator::row_refusal),
+    (2, Generator::row_layout),
 ];
 
 pub struct Generator {
@@ -86,6 +111,39 @@ impl Generator {
         let place = lists::place(&mut self.random, count);
         let word = lists::any_word(&mut self.random);
         request(&[&[STORE], &list(&buffer), &[place, word.into()]])
+    }
+
+    fn part(&mut self) -> Request {
+        let count = self.random.below(12);
+        let words = lists::content(&mut self.random, count as usize);
+        let place = lists::place(&mut self.random, count);
+        let asked = lists::place(&mut self.random, count);
+        request(&[&[PART], &list(&words), &[place, asked]])
+    }
+
+    /// Two lists: the same, one word or one bit apart, or any two.
+    fn same(&mut self) -> Request {
+        let words = lists::words(&mut self.random);
+        let mut other = words.clone();
+        match self.random.below(5) {
+            0 => other.push(lists::any_word(&mut self.random)),
+            1 => other.truncate(words.len().saturating_sub(1)),
+            2 => {
+                let bit = 1 << self.random.below(16);
+                regions::change_a_word(&mut self.random, &mut other, |word| word ^ bit);
+            }
+            3 => other = lists::words(&mut self.random),
+            _ => {}
+        }
+        request(&[&[SAME], &list(&words), &list(&other)])
+    }
+
+    fn lay(&mut self) -> Request {
+        let count = self.random.below(12);
+        let buffer = lists::content(&mut self.random, count as usize);
+        let place = lists::place(&mut self.random, count);
+        let words = lists::output(&mut self.random, count as usize);
+        request(&[&[LAY], &list(&buffer), &[place], &list(&words)])
     }
 
     fn raster_row(&mut self) -> Request {

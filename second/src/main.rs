@@ -3,14 +3,21 @@
 #![forbid(unsafe_code)]
 
 mod arguments;
+mod build;
 mod cable;
+mod check;
+mod correct;
 mod crc;
 mod functions;
 mod generate;
+mod layout;
+mod packet;
 mod random;
 mod raster;
 mod refusal;
 mod requests;
+mod runs;
+mod search;
 mod timing;
 mod vectors;
 mod words;

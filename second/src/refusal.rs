@@ -4,12 +4,18 @@
 pub enum Refusal {
     /// "output or row buffer too short for the result or for T"
     Short = 1,
+    /// "row slice not of T words; in building, not A active words or over T-A-12 blanking words"
+    Length = 2,
     /// "a word or history above 3FF, a carry above 3FFFF"
     Word = 3,
     /// "raster not 0..11"
     Raster = 4,
     /// "line not 1..N"
     Line = 5,
+    /// "in building a packet: DID byte 00, over 255 user words, or a reserved user word"
+    Packet = 6,
+    /// "in building or correction, a timing code, line number, CRC, checksum or header word to be made would be a reserved code"
+    Made = 8,
 }
 
 impl Refusal {

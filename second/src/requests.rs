@@ -1,5 +1,8 @@
 //! Answers requests: each calls one function once.
 
+mod packets;
+mod rows;
+
 use crate::arguments::Arguments;
 use crate::functions::*;
 use crate::raster::Kind;
@@ -25,12 +28,14 @@ pub fn format_line(numbers: &[u32]) -> String {
 fn call(arguments: &mut Arguments) -> Answer {
     let function = arguments.number()?;
     match function {
-        ALL_WORDS..=STORE => call_words(function, arguments),
+        ALL_WORDS..=LAY => call_words(function, arguments),
         RASTER_ROW..=V_AND_F => call_raster(function, arguments),
         CRC_AFTER_WORD..=CRC_AFTER_WORDS => call_crc(function, arguments),
         SCRAMBLE | UNSCRAMBLE => call_scrambler(function, arguments),
         FIND_SYNC..=UNSCRAMBLE_WORD => call_cable(function, arguments),
         XYZ..=READ_LINE => call_timing(function, arguments),
+        BUILD_PACKET..=RIGHT_CHECKSUMS => packets::call(function, arguments),
+        CHECK_ROW..=ROW_LAYOUT => rows::call(function, arguments),
         _ => unknown(function),
     }
 }
@@ -62,6 +67,18 @@ fn call_words(function: u32, arguments: &mut Arguments) -> Answer {
         STORE => {
             let mut buffer = arguments.list()?;
             words::store(&mut buffer, arguments.number()?, arguments.word()?);
+            list(&buffer)
+        }
+        PART => {
+            let words = arguments.list()?;
+            let part = words::part(words.len(), arguments.number()?, arguments.number()?);
+            list(&words[part])
+        }
+        SAME => vec![(arguments.list()? == arguments.list()?).into()],
+        LAY => {
+            let mut buffer = arguments.list()?;
+            let place = arguments.number()? as usize;
+            words::lay(&mut buffer, place, &arguments.list()?);
             list(&buffer)
         }
         _ => return unknown(function),

@@ -1,5 +1,11 @@
 //! Requests for the published numbers, each with the answer published for it.
 
+mod built;
+mod damaged;
+mod packets;
+mod refused;
+mod wiped;
+
 use crate::functions::*;
 
 pub struct Vector {
@@ -31,6 +37,11 @@ pub fn all() -> Vec<Vector> {
         named_rasters(),
         unnamed_rasters(),
         picture_lines(),
+        packets::all(),
+        built::all(),
+        damaged::all(),
+        wiped::all(),
+        refused::all(),
     ];
     groups.into_iter().flatten().collect()
 }
@@ -90,17 +101,19 @@ fn crc() -> Vec<Vector> {
     ]
 }
 
-/// The audio DIDs as the data sheets print them (000:1911-1919, 002:100, 003:2137-2141): "bit 9 is the inverse of bit 8",
-/// asked for with a wrong bit 9.
+/// The audio DIDs as the data sheets print them (000:1911-1919, 002:100, 003:2137-2141).
+const AUDIO_DIDS: [u16; 28] = [
+    0x2ff, 0x1fd, 0x1fb, 0x2f9, 0x1fe, 0x2fc, 0x2fa, 0x1f8, 0x1ef, 0x2ee, 0x2ed, 0x1ec, 0x2e7,
+    0x1e6, 0x1e5, 0x2e4, 0x1e3, 0x2e2, 0x2e1, 0x1e0, 0x1a7, 0x2a6, 0x2a5, 0x1a4, 0x2a3, 0x1a2,
+    0x1a1, 0x2a0,
+];
+
+/// "bit 9 is the inverse of bit 8", asked for with a wrong bit 9.
 fn nine_bits() -> Vec<Vector> {
-    [
-        0x2ff, 0x1fd, 0x1fb, 0x2f9, 0x1fe, 0x2fc, 0x2fa, 0x1f8, 0x1ef, 0x2ee, 0x2ed, 0x1ec, 0x2e7,
-        0x1e6, 0x1e5, 0x2e4, 0x1e3, 0x2e2, 0x2e1, 0x1e0, 0x1a7, 0x2a6, 0x2a5, 0x1a4, 0x2a3, 0x1a2,
-        0x1a1, 0x2a0,
-    ]
-    .into_iter()
-    .map(|word| vector(&[WITH_BIT_NINE, word ^ 0x200], &[word]))
-    .collect()
+    AUDIO_DIDS
+        .map(u32::from)
+        .map(|word| vector(&[WITH_BIT_NINE, word ^ 0x200], &[word]))
+        .into()
 }
 
 /// "word 3FF passes, 400 gives 3", wherever a word or a history is taken; a carry's limit is 3FFFF.

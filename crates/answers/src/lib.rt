@@ -4,12 +4,20 @@ use raster::Kind;
 use raster::Raster;
 use timing::Timing;
 
+// The number at a place of a request, 0 where there is none.
+pub fn arg(args: &[u32], at: usize) -> u32 {
+    if at < args.len() {
+        return args[at];
+    }
+    0
+}
+
 // The low sixteen bits.
-fn word(n: u32) -> u16 {
+pub fn word(n: u32) -> u16 {
     (n % 65536) as u16
 }
 
-fn flag(yes: bool) -> u64 {
+pub fn flag(yes: bool) -> u64 {
     if yes {
         return 1;
     }

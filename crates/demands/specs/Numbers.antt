@@ -7,6 +7,7 @@ use Rattle.crc.specs.Crc.{crcStart, crcWords, cr0, cr1}
 use Rattle.cable.specs.Words.{startHistory, scrambleWords, unscrambleWords}
 use Rattle.timing.specs.Xyz.{xyzOf}
 use Rattle.timing.specs.Line.{ln0Of, ln1Of}
+use Rattle.scan.specs.Packet.{rightChecksum}
 
 -- the XYZ word of the number F V H
 abbrev pub xyzAt : ℕ → ℕ
@@ -19,6 +20,9 @@ lineAt line = ln0Of line ∷ ln1Of line ∷ []
 abbrev pub crcOf : List ℕ → List ℕ
 crcOf ws = crcWords crcStart ws ∷ cr0 (crcWords crcStart ws) ∷ cr1 (crcWords crcStart ws) ∷ []
 
+abbrev pub packet : List ℕ
+packet = 0x000 ∷ 0x3ff ∷ 0x3ff ∷ 0x241 ∷ 0x101 ∷ 0x104 ∷ 0x185 ∷ 0x206 ∷ 0x101 ∷ 0x200 ∷ []
+
 -- what the definitions give, one row a number of the paper
 abbrev pub given : List (List ℕ)
 given =
@@ -30,6 +34,7 @@ given =
     ∷ unscrambleWords startHistory (0x001 ∷ 0x000 ∷ [])
     ∷ crcOf []
     ∷ crcOf (0x200 ∷ [])
+    ∷ (rightChecksum packet ∷ [])
     ∷ []
 
 -- what the paper prints
@@ -43,6 +48,7 @@ printed =
     ∷ (0x263 ∷ 0x001 ∷ [])
     ∷ (0 ∷ 0x200 ∷ 0x200 ∷ [])
     ∷ (0x23000 ∷ 0x200 ∷ 0x118 ∷ [])
+    ∷ (0x2d2 ∷ [])
     ∷ []
 
 unfoldable pub NumbersHold : Type 0

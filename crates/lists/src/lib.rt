@@ -3,25 +3,15 @@
 ghost use Prim.Native.Nat.{_≤_};
 ghost use lib.ListN.{length};
 use align::Sync;
+use answers::arg;
 use answers::first;
+use answers::flag;
 use answers::then;
 use answers::three;
 use answers::two;
+use answers::word;
 use cable::Coded;
 use libc::STDOUT_FILENO;
-
-// The number at a place, 0 where there is none.
-fn arg(args: &[u32], at: usize) -> u32 {
-    if at < args.len() {
-        return args[at];
-    }
-    0
-}
-
-// The low sixteen bits.
-fn word(n: u32) -> u16 {
-    (n % 65536) as u16
-}
 
 fn wide(word: u16) -> u64 {
     word as u64
@@ -37,7 +27,7 @@ fn elements(words: &[u16]) {
 }
 
 // The end of a line.
-fn end_line() {
+pub fn end_line() {
     io::write_all(STDOUT_FILENO, b"\n");
 }
 
@@ -62,7 +52,8 @@ pub fn answer(args: &[u32]) {
     match arg(args, 0) {
         0x1 | 0x32 => of_list(args, 1),
         0x21 | 0x23 => of_list(args, 2),
-        0x4 => put(args),
+        0x4 | 0x5 => one_list(args),
+        0x6 | 0x7 => two_lists(args),
         0x30 | 0x31 => coded(args),
         _ => answers::answer(
             arg(args, 0),
@@ -75,20 +66,47 @@ pub fn answer(args: &[u32]) {
     end_line();
 }
 
-fn put(args: &[u32]) {
+// Requests of a list and two numbers.
+fn one_list(args: &[u32]) {
     let mut words = [0u16; 20000];
     let n = take_words(args, 1, &mut words);
-    put_in(
-        &mut words[0..n],
-        arg(args, n % 65536 + 2) as usize,
-        word(arg(args, n % 65536 + 3)),
-    );
+    let a = arg(args, n % 65536 + 2);
+    let b = arg(args, n % 65536 + 3);
+    if arg(args, 0) == 0x5 {
+        list(parts::part(&words[0..n], a as usize, b as usize));
+        return;
+    }
+    put_in(&mut words[0..n], a as usize, word(b));
 }
 
 fn put_in(buffer: &mut [u16], at: usize, w: u16) {
     bits::put(buffer, at, w);
-    first(buffer.len() as u64);
-    elements(buffer);
+    list(buffer);
+}
+
+// Requests of two lists; the second of 7 comes after the place.
+fn two_lists(args: &[u32]) {
+    let mut words = [0u16; 20000];
+    let n = take_words(args, 1, &mut words);
+    second_list(args, n % 65536 + 2, &mut words[0..n]);
+}
+
+fn second_list(args: &[u32], at: usize, words: &mut [u16]) {
+    let mut others = [0u16; 20000];
+    if arg(args, 0) == 0x6 {
+        let n = take_words(args, at, &mut others);
+        first(flag(parts::same(words, &others[0..n])));
+        return;
+    }
+    let n = take_words(args, at % 65536 + 1, &mut others);
+    parts::lay(words, arg(args, at) as usize, &others[0..n]);
+    list(words);
+}
+
+// A list, from the first number of a line.
+fn list(words: &[u16]) {
+    first(words.len() as u64);
+    elements(words);
 }
 
 // Scrambling, 30, and unscrambling, 31.
@@ -126,7 +144,7 @@ fn of_list(args: &[u32], at: usize) {
 
 fn of_words(request: u32, register: u32, words: &[u16]) {
     match request {
-        0x1 => first(bits::all_words(words) as u64),
+        0x1 => first(flag(bits::all_words(words))),
         0x21 => run(register, words),
         0x23 => first(crc::step_words(register, words) as u64),
         _ => find_sync(words),

@@ -5,11 +5,6 @@ fn say(text: &[u8]) {
     io::write_all(STDOUT_FILENO, text);
 }
 
-fn number(text: &[u8], n: u32) {
-    say(text);
-    io::print_decimal(STDOUT_FILENO, n as u64);
-}
-
 fn digit(n: u16) -> u8 {
     let low = (n % 16) as u8;
     if low < 10 {
@@ -76,6 +71,12 @@ fn check(text: &[u8], words: &[u16]) {
     check_words(ran.register);
 }
 
+fn checksum() {
+    let summed = [0x241, 0x101, 0x104, 0x185, 0x206, 0x101, 0x200];
+    say(b"\n(9) checksum of the packet 241 101 104 185 206 101 200:");
+    word(scan::checksum(&summed));
+}
+
 fn numbers() {
     all_xyz();
     line(b"\n(2) line 1:", 1);
@@ -85,57 +86,10 @@ fn numbers() {
     unscrambled();
     check(b"\n(7) CRC of no words: register ", &[]);
     check(b"\n(8) CRC of the word 200: register ", &[0x200]);
-}
-
-// The refusal of a word: of CRC words, and of line words.
-fn word_limit(w: u16) {
-    let ran = crc::run(0, &[w]);
-    let read = timing::read_line(1, 0x204, w);
-    say(b"\nword");
-    word(w);
-    number(b": refusal ", ran.refusal as u32);
-    number(b" in a CRC, ", read.refusal as u32);
-    say(b" in a line number");
-}
-
-fn line_limit(n: u32) {
-    let made = timing::line_words(1, n);
-    number(b"\nline ", n);
-    number(b" of raster 1: refusal ", made.refusal as u32);
-}
-
-// A raster's row of the table.
-fn row(code: u32) {
-    let looked = raster::raster_of(code);
-    let found = looked.raster;
-    let layout = found.layout;
-    number(b"\nraster ", code);
-    number(b": T ", (layout.total % 65536) as u32);
-    number(b", A ", (layout.active % 65536) as u32);
-    number(b", rows ", found.rows);
-}
-
-fn rows() {
-    row(1);
-    row(2);
-    row(3);
-    row(4);
-    row(5);
-    row(6);
-    row(7);
-    row(8);
-    row(9);
-    row(10);
-    row(11);
+    checksum();
 }
 
 fn main() {
     numbers();
-    word_limit(0x3ff);
-    word_limit(0x400);
-    line_limit(750);
-    line_limit(751);
-    line_limit(0);
-    rows();
     say(b"\n");
 }

@@ -28,7 +28,7 @@ fn begin(args: &mut [u32], at: usize) -> usize {
 // A byte of a line whose number at a place is being read; answers the place where the next byte goes on.
 fn take(at: usize, byte: u8, args: &mut [u32]) -> usize {
     if byte == b'\n' {
-        lists::answer(args);
+        rows::answer(args);
         return begin(args, 0);
     }
     if byte == b' ' {

@@ -119,15 +119,35 @@ pub fn content(random: &mut Random, count: usize) -> Vec<u16> {
 
 /// An output for so many words: empty, shorter, equal or longer.
 pub fn output(random: &mut Random, words: usize) -> Vec<u16> {
-    let count = match random.below(8) {
+    let count = output_length(random, words);
+    content(random, count)
+}
+
+/// The same, of few runs.
+pub fn output_of_runs(random: &mut Random, words: usize) -> Vec<u16> {
+    let count = output_length(random, words);
+    buffer_of_runs(random, count)
+}
+
+/// What a lent buffer may hold, in at most three runs.
+pub fn buffer_of_runs(random: &mut Random, count: usize) -> Vec<u16> {
+    let mut buffer = vec![any_word(random); count];
+    for _ in 0..2 {
+        let rest = random.place(count + 1);
+        buffer[rest..].fill(any_word(random));
+    }
+    buffer
+}
+
+fn output_length(random: &mut Random, words: usize) -> usize {
+    match random.below(8) {
         0 => 0,
         1 | 2 => words.saturating_sub(1),
         3 => random.place(words + 1),
         4 | 5 => words,
         6 => words + 1,
         _ => words + random.place(20),
-    };
-    content(random, count)
+    }
 }
 
 /// A place in, at the edge of or beyond a buffer of so many words.

@@ -1,7 +1,7 @@
 //! Raster codes, lines and measured counts.
 
 use crate::random::Random;
-use crate::raster::TABLE;
+use crate::raster::{raster_of, TABLE};
 
 const NO_CODES: [u32; 9] = [
     12,
@@ -31,9 +31,13 @@ const LONG_LINES: [u32; 8] = [
     0xffff_ffff,
 ];
 
+pub fn bad_code(random: &mut Random) -> u32 {
+    random.pick(&NO_CODES)
+}
+
 pub fn code(random: &mut Random) -> u32 {
     if random.one_in(5) {
-        random.pick(&NO_CODES)
+        bad_code(random)
     } else {
         random.below(12)
     }
@@ -46,6 +50,30 @@ pub fn line(random: &mut Random) -> u32 {
         2 => random.between(1, 1125),
         3 => random.below(2048),
         _ => random.pick(&LINE_EDGES),
+    }
+}
+
+/// N, or that of most rasters where there is no such raster.
+fn rows(code: u32) -> u32 {
+    raster_of(code).map_or(1125, |raster| raster.rows)
+}
+
+/// A line of the raster.
+pub fn line_of(random: &mut Random, code: u32) -> u32 {
+    loop {
+        let line = line(random);
+        if (1..=rows(code)).contains(&line) {
+            return line;
+        }
+    }
+}
+
+/// A number that is no line of the raster.
+pub fn bad_line(random: &mut Random, code: u32) -> u32 {
+    match random.below(3) {
+        0 => 0,
+        1 => rows(code) + 1,
+        _ => random.pick(&LONG_LINES),
     }
 }
 

@@ -1,0 +1,4 @@
+pub mod Flags
+pub mod Words
+pub mod Received
+pub mod Flagged

@@ -1,0 +1,66 @@
+-- Laws of the refusals of building.
+use mathlib.Core.Path.{_≡_, refl, _∙_}
+use mathlib.Core.Bool.{Bool, true, false, not, _&&_}
+use mathlib.Core.List.{List}
+use Prim.Native.Nat.{ℕ, zero, suc, _+_, _≤_, _<_}
+use native.Mathlib.Omega.{arith}
+use lib.Dec.{leb, eqb}
+use lib.ListN.{length}
+use borrow.Author.Tests.{le-leb, lt-leb, ne-eqb, leb-true}
+use Rattle.bits.specs.Choice.{if}
+use Rattle.bits.specs.Words.{words10, reservedCode}
+use Rattle.parts.specs.Parts.{any, laidUnless}
+use Rattle.scan.proofs.Packets.{checksum-not-reserved}
+use Rattle.packet.specs.Build.{bodyOf, madeFit, buildRefusal, builtFor}
+use Rattle.packet.proofs.Words.{header-not-reserved}
+
+-- ---- madeFit: no word that is made is a reserved code
+
+pub made-fit : (did sdid : ℕ) (user : List ℕ) → madeFit did sdid user ≡ true
+unfolding any
+made-fit did sdid user =
+    rw
+    (header-not-reserved did, header-not-reserved sdid, header-not-reserved (length user), checksum-not-reserved (bodyOf did sdid user))
+
+-- ---- buildRefusal
+
+pub record Lawful (did : ℕ) (user : List ℕ) : Type 0 where
+  pub words : words10 user ≡ true
+  pub some : did ≡ 0 → ⊥
+  pub few : length user ≤ 255
+  pub free : any reservedCode user ≡ false
+
+module _ (did sdid : ℕ) (user : List ℕ) (room : ℕ) where
+  pub refusal-of-lawful : Lawful did user
+      → buildRefusal did sdid user room ≡ if (madeFit did sdid user) (if (leb (length user + 7) room) 0 1) 8
+  unfolding buildRefusal
+  refusal-of-lawful l = rw (l .words, ne-eqb did 0 (l .some), le-leb (length user) 255 (l .few), l .free)
+
+  pub refusal-of-short : Lawful did user → room < length user + 7 → buildRefusal did sdid user room ≡ 1
+  refusal-of-short l h = refusal-of-lawful l ∙ rw (made-fit did sdid user, lt-leb (length user + 7) room h)
+
+  pub refusal-of-room : Lawful did user → length user + 7 ≤ room → buildRefusal did sdid user room ≡ 0
+  refusal-of-room l h = refusal-of-lawful l ∙ rw (made-fit did sdid user, le-leb (length user + 7) room h)
+
+  pub room-of-built : buildRefusal did sdid user room ≡ 0 → (length user ≤ 255) × (length user + 7 ≤ room)
+  unfolding buildRefusal
+  room-of-built =
+      go (words10 user) (not (eqb did 0)) (leb (length user) 255) (not (any reservedCode user)) (madeFit did sdid user)
+      (leb (length user + 7) room) (leb-true (length user) 255) (leb-true (length user + 7) room)
+    where
+      go : (w d l f h r : Bool) → (l ≡ true → length user ≤ 255) → (r ≡ true → length user + 7 ≤ room)
+          → if {A = ℕ} w (if (d && (l && f)) (if h (if r 0 1) 8) 6) 3 ≡ 0 → (length user ≤ 255) × (length user + 7 ≤ room)
+      go true true true true true true few wide e = (few refl, wide refl)
+      go true true true true true false few wide e = absurd (omega arith)
+      go true true true true false r few wide e = absurd (omega arith)
+      go true true true false h r few wide e = absurd (omega arith)
+      go true true false f h r few wide e = absurd (omega arith)
+      go true false l f h r few wide e = absurd (omega arith)
+      go false d l f h r few wide e = absurd (omega arith)
+
+-- ---- builtFor, and the buffer that a refusal leaves
+
+pub refused : (n : ℕ) (user packet out : List ℕ) → (n ≡ 0 → ⊥)
+    → (record { refusal = n; words = 0 } ≡ builtFor n user) × (out ≡ laidUnless n packet out)
+refused zero user packet out h = absurd (h refl)
+refused (suc n) user packet out h = (refl, refl)

@@ -1,0 +1,105 @@
+-- Laws of regions in which no packet is cut and every checksum is right.
+use mathlib.Core.Path.{_≡_, refl, sym, ap, _∙_}
+use mathlib.Core.Bool.{Bool, true, false, not, _||_}
+use mathlib.Core.List.{List, [], _∷_, _++_, map, flatMap}
+use Prim.Native.Nat.{ℕ, zero, suc}
+use lib.Dec.{eqb}
+use lib.ListN.{length, replicate}
+use borrow.Author.Tests.{not-true, not-false, ne-eqb}
+use Rattle.bits.specs.Words.{reservedCode}
+use Rattle.bits.proofs.Choice.{and-true, false-not-true}
+use Rattle.bits.proofs.Lists.{cons-equal}
+use Rattle.parts.specs.Parts.{any}
+use Rattle.parts.proofs.Comparing.{any-of-append, any-cons}
+use Rattle.scan.specs.Packet.{marked, sizeOf, checksumIn, rightChecksum}
+use Rattle.scan.specs.Scan.{Piece, Word, Marker, Packet, wordsOf, scan, scanFrom, cutPiece, wrongSum}
+use Rattle.scan.proofs.Remade.{isPacket, unsettled, scan-of-settled}
+use Rattle.rowlaws.specs.Lawful.{rightPacket, allRight, endToEnd}
+
+-- ---- lower crates: parts, any
+
+any-weaken : {A : Type 0} (p q : A → Bool) → ((x : A) → p x ≡ false → q x ≡ false) → (xs : List A) → any p xs ≡ false → any q xs ≡ false
+unfolding any
+any-weaken p q w [] e = refl
+any-weaken p q w (x ∷ xs) e =
+    let b = any-cons p x xs e in
+    rw (w x (b .0)) (any-weaken p q w xs (b .1))
+
+any-of-map : {A B : Type 0} (p : B → Bool) (f : A → B) (xs : List A) → any p (map f xs) ≡ any (λ x. p (f x)) xs
+unfolding any
+any-of-map p f [] = refl
+any-of-map p f (x ∷ xs) = ap (λ (b : Bool). p (f x) || b) (any-of-map p f xs)
+
+any-of-replicate : {A : Type 0} (p : A → Bool) (n : ℕ) (x : A) → p x ≡ false → any p (replicate n x) ≡ false
+unfolding any
+any-of-replicate p zero x e = refl
+any-of-replicate p (suc n) x e = rw e (any-of-replicate p n x e)
+
+-- ---- calm regions
+
+-- a piece that is not found as it is whatever follows it, or that has a fault
+abbrev troubled : Piece → Bool
+troubled (Word w) = eqb w 0
+troubled Marker = true
+troubled (Packet p) = not (rightPacket p)
+
+right-packet : (p : List ℕ) → not (rightPacket p) ≡ false → (isPacket p ≡ true) × (eqb (checksumIn p) (rightChecksum p) ≡ true)
+right-packet p e =
+    let m = and-true (marked p) _ (not-false (rightPacket p) e) in
+    let l = and-true (eqb (length p) (sizeOf p)) _ (m .1) in
+    (rw (m .0, l .0), l .1)
+
+troubled-unsettled : (p : Piece) → troubled p ≡ false → unsettled p ≡ false
+troubled-unsettled (Word w) e = rw e
+troubled-unsettled Marker e = e
+troubled-unsettled (Packet p) e = rw (right-packet p e .0)
+
+troubled-wrongSum : (p : Piece) → troubled p ≡ false → wrongSum p ≡ false
+troubled-wrongSum (Word w) e = refl
+troubled-wrongSum Marker e = refl
+troubled-wrongSum (Packet p) e = rw (right-packet p e .1)
+
+troubled-cutPiece : (p : Piece) → troubled p ≡ false → cutPiece p ≡ false
+troubled-cutPiece (Word w) e = refl
+troubled-cutPiece Marker e = e
+troubled-cutPiece (Packet p) e = refl
+
+pub record Calm (region : List ℕ) : Type 0 where
+  pub sum : any wrongSum (scan region) ≡ false
+  pub cut : any cutPiece (scan region) ≡ false
+
+pub calm-none : Calm []
+unfolding scan scanFrom any
+calm-none = record { sum = refl; cut = refl }
+
+calm-pieces : (ps : List Piece) (z : List ℕ) → any troubled ps ≡ false → Calm z → Calm (flatMap wordsOf ps ++ z)
+calm-pieces ps z e c =
+    let s = scan-of-settled ps z (any-weaken troubled unsettled troubled-unsettled ps e) in
+    record {
+      sum = rw (s, any-of-append, any-weaken troubled wrongSum troubled-wrongSum ps e) (c .sum);
+      cut = rw (s, any-of-append, any-weaken troubled cutPiece troubled-cutPiece ps e) (c .cut);
+    }
+
+pub calm-packets : (packets : List (List ℕ)) (z : List ℕ) → allRight packets ≡ true → Calm z → Calm (endToEnd packets ++ z)
+unfolding flatMap
+calm-packets packets z e c =
+    rw (words packets) (calm-pieces (map Packet packets) z (any-of-map troubled Packet packets ∙ not-true _ e) c)
+  where
+    words : (ps : List (List ℕ)) → endToEnd ps ≡ flatMap wordsOf (map Packet ps)
+    words [] = refl
+    words (p ∷ ps) = ap (λ (l : List ℕ). p ++ l) (words ps)
+
+calm-words : (ws : List ℕ) → any (λ w. eqb w 0) ws ≡ false → Calm ws
+unfolding flatMap
+calm-words ws e = rw (words ws) (calm-pieces (map Word ws) [] (any-of-map troubled Word ws ∙ e) calm-none)
+  where
+    words : (vs : List ℕ) → vs ≡ flatMap wordsOf (map Word vs) ++ []
+    words [] = refl
+    words (v ∷ vs) = cons-equal refl (words vs)
+
+pub calm-blanks : (n blank : ℕ) → (blank ≡ 0 → ⊥) → Calm (replicate n blank)
+calm-blanks n blank h = calm-words (replicate n blank) (any-of-replicate (λ w. eqb w 0) n blank (ne-eqb blank 0 h))
+
+pub calm-plain : (ws : List ℕ) → any reservedCode ws ≡ false → Calm ws
+unfolding reservedCode
+calm-plain ws e = calm-words ws (any-weaken reservedCode (λ w. eqb w 0) (λ w k. ne-eqb w 0 (λ z. false-not-true (sym (rw z at k)))) ws e)

@@ -1,0 +1,7 @@
+pub mod BuiltParts
+pub mod Calm
+pub mod NoFlag
+pub mod CorrectedParts
+pub mod Rechecked
+pub mod Again
+pub mod CorrectedRows

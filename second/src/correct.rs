@@ -1,0 +1,63 @@
+//! Correcting a row.
+
+use crate::check::{next_carry, readable, refuse_carry, right_crc};
+use crate::crc::Carry;
+use crate::layout::{Layout, BLANKING, C, CRC, EAV, LINE, Y};
+use crate::packet::{make_checksums_right, right_checksum, whole_packets, wipe};
+use crate::refusal::{refuse, Refusal};
+use crate::words::{fill, is_reserved};
+
+/// Corrects both channels and answers the next carry of the row as it then stands.
+pub fn correct(
+    code: u32,
+    line: u32,
+    carry: Option<Carry>,
+    wiping: bool,
+    row: [&mut [u16]; 2],
+) -> Result<Carry, Refusal> {
+    let layout = readable(code, line, row.each_ref().map(|words| &**words))?;
+    refuse_carry(carry)?;
+    let corrected = [Y, C].map(|channel| {
+        let mut words = row[channel].to_vec();
+        if wiping {
+            wipe_packets(&layout, &mut words, BLANKING[channel]);
+        }
+        correct_channel(&layout, carry.map(|carry| carry[channel]), &mut words);
+        words
+    });
+    let reserved = |words: &Vec<u16>| makes_reserved(&layout, carry.is_some(), words);
+    refuse(&[(Refusal::Made, corrected.iter().any(reserved))])?;
+    for (words, corrected) in row.into_iter().zip(&corrected) {
+        fill(words, corrected);
+    }
+    Ok(next_carry(&layout, corrected.each_ref().map(Vec::as_slice)))
+}
+
+fn wipe_packets(layout: &Layout, words: &mut [u16], blanking: u16) {
+    for region in layout.packet_regions() {
+        wipe(&mut words[region], blanking);
+    }
+}
+
+/// "Correction writes, in this order: checksums, TRS and line numbers, CRC."
+fn correct_channel(layout: &Layout, register: Option<u32>, words: &mut [u16]) {
+    for region in layout.packet_regions() {
+        make_checksums_right(&mut words[region]);
+    }
+    words[EAV].copy_from_slice(&layout.eav_words());
+    words[layout.sav()].copy_from_slice(&layout.sav_words());
+    words[LINE].copy_from_slice(&layout.line_words());
+    // "With no row before, CRC is neither judged nor corrected."
+    if let Some(register) = register {
+        let crc = right_crc(register, words);
+        words[CRC].copy_from_slice(&crc);
+    }
+}
+
+/// "in building or correction, a timing code, line number, CRC, checksum [..] to be made would be a reserved code"
+fn makes_reserved(layout: &Layout, with_crc: bool, corrected: &[u16]) -> bool {
+    let crc = &corrected[if with_crc { CRC } else { 0..0 }];
+    let regions = layout.packet_regions().into_iter();
+    let mut packets = regions.flat_map(|region| whole_packets(&corrected[region]));
+    layout.makes_reserved(crc) || packets.any(|packet| is_reserved(right_checksum(packet)))
+}

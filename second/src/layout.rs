@@ -1,0 +1,120 @@
+//! Where a row's parts stand, and what raster and line say of them:
+//! "A row of T pairs: EAV 4, LN 2, CRC 2, blanking T-A-12, SAV 4, active A."
+
+use crate::raster::{raster_with_line, v_and_f, Raster};
+use crate::refusal::Refusal;
+use crate::timing::{encode_line, xyz};
+use crate::words::is_reserved;
+use std::ops::Range;
+
+/// "A row's channels are two lent slices of words, Y and C."
+pub type Row<'a> = [&'a [u16]; 2];
+pub const Y: usize = 0;
+pub const C: usize = 1;
+
+/// "Blanking is 040 in Y, 200 in C."
+pub const BLANKING: [u16; 2] = [0x040, 0x200];
+
+pub const EAV: Range<usize> = 0..4;
+pub const LINE: Range<usize> = 4..6;
+pub const CRC: Range<usize> = 6..8;
+
+pub struct Layout {
+    raster: Raster,
+    line: u32,
+    pub v: bool,
+    f: bool,
+}
+
+impl Layout {
+    /// The layout of a line of a raster, or refusal 4 or 5.
+    pub fn of(code: u32, line: u32) -> Result<Self, Refusal> {
+        let raster = raster_with_line(code, line)?;
+        let (v, f) = v_and_f(code, line)?;
+        Ok(Self { raster, line, v, f })
+    }
+
+    /// T.
+    pub fn total(&self) -> usize {
+        self.raster.total as usize
+    }
+
+    pub fn active(&self) -> Range<usize> {
+        self.total() - self.raster.active as usize..self.total()
+    }
+
+    pub fn sav(&self) -> Range<usize> {
+        self.active().start - 4..self.active().start
+    }
+
+    pub fn blanking(&self) -> Range<usize> {
+        CRC.end..self.sav().start
+    }
+
+    /// "H is 1 in EAV, 0 in SAV."
+    pub fn eav_words(&self) -> [u16; 4] {
+        self.timing_words(true)
+    }
+
+    pub fn sav_words(&self) -> [u16; 4] {
+        self.timing_words(false)
+    }
+
+    fn timing_words(&self, h: bool) -> [u16; 4] {
+        [0x3ff, 0x000, 0x000, xyz(self.f, self.v, h)]
+    }
+
+    pub fn line_words(&self) -> [u16; 2] {
+        encode_line(self.line).into()
+    }
+
+    /// "a timing code, line number, CRC [..] to be made would be a reserved code"; the CRC words, where made, are given.
+    pub fn makes_reserved(&self, crc: &[u16]) -> bool {
+        let codes = [self.eav_words()[3], self.sav_words()[3]];
+        let made = [&codes[..], &self.line_words(), crc].concat();
+        made.into_iter().any(is_reserved)
+    }
+
+    /// "Packets lie in the blanking of every row, and in the active words of rows whose expected line has V = 1";
+    /// "blanking before active words".
+    pub fn packet_regions(&self) -> Vec<Range<usize>> {
+        if self.v {
+            vec![self.blanking(), self.active()]
+        } else {
+            vec![self.blanking()]
+        }
+    }
+}
+
+#[cfg(test)]
+mod tests {
+    use super::*;
+    use crate::raster::TABLE;
+
+    /// "blanking T-A-12", and each part where the one before it ends.
+    #[test]
+    fn the_parts_follow_one_another() {
+        for raster in TABLE {
+            let layout = Layout::of(raster.code, 1).expect("line 1 is of every raster");
+            let length = raster.total - raster.active - 12;
+            assert_eq!(layout.blanking().len(), length as usize);
+            let parts = [
+                EAV,
+                LINE,
+                CRC,
+                layout.blanking(),
+                layout.sav(),
+                layout.active(),
+            ];
+            assert!(parts.windows(2).all(|pair| pair[0].end == pair[1].start));
+            assert_eq!(layout.active().end, layout.total());
+        }
+    }
+
+    #[test]
+    fn active_words_hold_packets_where_v_is_1() {
+        let regions = |line| Layout::of(1, line).map(|layout| layout.packet_regions());
+        assert_eq!(regions(25), Ok(vec![8..366, 370..1650]));
+        assert_eq!(regions(26).map(|regions| regions.len()), Ok(1));
+    }
+}

@@ -14,13 +14,14 @@ use Rattle.cable.specs.Bits.{past}
 use Rattle.cable.specs.Words.{grouped}
 use Rattle.cable.specs.Channels.{channelBits}
 use Rattle.cable.proofs.Bits.{length-unscrambled}
+use Rattle.cable.proofs.Coding.{length-grouped}
 use Rattle.cable.proofs.Channels.{placeAfter, Run}
 use Rattle.plan.specs.declared.Plan.{Plan}
 use Rattle.plan.specs.Plan.{planOf}
 use Rattle.plan.proofs.Plans.{Fits, planOf-fits}
 use Rattle.burst.specs.Stretch.{channelWords, received, flagsIn, crcFlagged, BurstFlagged}
 use Rattle.burst.proofs.Flags.{crcFault, crcFlagged-clear, clear-words}
-use Rattle.burst.proofs.Words.{channel-pairs, length-grouped, wordBits-of-grouped, channelWords-of-append}
+use Rattle.burst.proofs.Words.{channel-pairs, wordBits-of-grouped, channelWords-of-append}
 use Rattle.burst.proofs.Received.{received-after, Covered, covered-run}
 
 -- ---- one channel

@@ -36,11 +36,6 @@ channel-pairs y n bs e = channel-share y 0 bs ∙ ap (share y 0) e ∙ share-pai
 
 -- ---- grouped (of the crate cable)
 
-pub length-grouped : (k : ℕ) (bs : List Bool) → length (grouped k bs) ≡ k
-unfolding grouped
-length-grouped zero bs = refl
-length-grouped (suc k) bs = ap suc (length-grouped k (drop 10 bs))
-
 grouped-of-append : (j k : ℕ) (xs ys : List Bool) → length xs ≡ 10 * j → grouped (j + k) (xs ++ ys) ≡ grouped j xs ++ grouped k ys
 unfolding grouped
 grouped-of-append zero k [] ys e = ap (λ (n : ℕ). grouped n ys) (zero-add k)

@@ -37,7 +37,7 @@ grouped-step : (k : ℕ) (xs ys : List Bool) → length xs ≡ 10 → grouped (s
 unfolding grouped
 grouped-step k xs ys e = cons-equal (ap number (take-at xs ys 10 e)) (ap (grouped k) (drop-at xs ys 10 e))
 
-length-grouped : (k : ℕ) (bs : List Bool) → length (grouped k bs) ≡ k
+pub length-grouped : (k : ℕ) (bs : List Bool) → length (grouped k bs) ≡ k
 unfolding grouped
 length-grouped zero bs = refl
 length-grouped (suc k) bs = ap suc (length-grouped k (drop 10 bs))

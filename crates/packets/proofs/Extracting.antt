@@ -1,7 +1,7 @@
 -- Laws of packetsOf, extractRefusal and extracted.
 use mathlib.Core.Path.{_≡_, refl, sym, ap, _∙_}
 use mathlib.Core.Bool.{Bool, false, not}
-use mathlib.Core.List.{List, [], _∷_, _++_, append-assoc, map, flatMap}
+use mathlib.Core.List.{List, [], _∷_, _++_, map, flatMap}
 use Prim.Native.Nat.{ℕ, zero, suc, _+_, _≤_, _<_}
 use native.Mathlib.Omega.{arith}
 use lib.ListN.{length, take, drop, length-append}
@@ -10,24 +10,19 @@ use Rattle.parts.specs.Parts.{any, laid, laidUnless}
 use Rattle.parts.proofs.Comparing.{any-cons}
 use Rattle.parts.proofs.Inside.{length-part}
 use Rattle.parts.proofs.Laid.{laid-of-append}
-use Rattle.scan.specs.Scan.{Piece, Packet, wordsOf, scan, packetWords, packetsOf}
+use Rattle.scan.specs.Scan.{Packet, wordsOf, scan, packetsOf}
 use Rattle.scan.proofs.Pieces.{AtWhole}
 use Rattle.scan.proofs.Remade.{isPacket, unsettled, scan-of-settled}
 use Rattle.plan.specs.declared.Plan.{Plan}
 use Rattle.plan.specs.Refusal.{rowRefusal}
 use Rattle.plan.proofs.Rows.{orRefusal-first}
 use Rattle.region.specs.Ancillary.{blankingOf, activeRegion, ancillary}
+use Rattle.region.proofs.Regions.{packets-of-append}
 use Rattle.packets.specs.declared.Channel.{Channel}
 use Rattle.packets.specs.declared.Extracted.{Extracted}
 use Rattle.packets.specs.Extract.{roomRefusal, extractRefusal, extractedFor, extracted}
 
 -- ---- packetsOf
-
-pub packets-of-append : (ps qs : List Piece) → packetsOf (ps ++ qs) ≡ packetsOf ps ++ packetsOf qs
-unfolding packetsOf flatMap
-packets-of-append [] qs = refl
-packets-of-append (p ∷ ps) qs =
-    ap (λ (l : List ℕ). packetWords p ++ l) (packets-of-append ps qs) ∙ sym (append-assoc (packetWords p) (packetsOf ps) (packetsOf qs))
 
 -- the packet of n words at place i
 module _ (r : List ℕ) (i n : ℕ) (t : AtWhole r i n) where

@@ -29,7 +29,7 @@ bothScanned s t =
       unfit = s .unfit || t .unfit;
     }
 
-packets-of-append : (ps qs : List Piece) → packetsOf (ps ++ qs) ≡ packetsOf ps ++ packetsOf qs
+pub packets-of-append : (ps qs : List Piece) → packetsOf (ps ++ qs) ≡ packetsOf ps ++ packetsOf qs
 unfolding packetsOf flatMap
 packets-of-append [] qs = refl
 packets-of-append (p ∷ ps) qs = ap (λ (l : List ℕ). packetWords p ++ l) (packets-of-append ps qs) ∙ sym (append-assoc (packetWords p) (packetsOf ps) (packetsOf qs))

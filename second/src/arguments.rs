@@ -1,7 +1,12 @@
 //! A request's numbers, read one after another.
 
+use crate::cable::scramble;
 use crate::crc::Carry;
+use crate::session::Numbers;
 use std::vec::IntoIter;
+
+/// "a list of words to be fed has at most 40,000 words"
+pub const MOST_FED: usize = 40_000;
 
 pub struct Arguments(IntoIter<u32>);
 
@@ -65,6 +70,50 @@ impl Arguments {
             (false, [0, 0]) => Ok(None),
             (false, _) => Err("registers of no carry".to_string()),
         }
+    }
+
+    /// "cable words by runs of two: a flag, the count of runs, then for each run how many times (at least 1), a word, a word;
+    /// and at the end a LIST of words"; "where the flag is 1 they are scrambled first", from the history given.
+    pub fn signal(&mut self, history: u16) -> Result<Vec<u16>, String> {
+        let is_scrambled = !self.flag()?;
+        let mut words = Vec::new();
+        for _ in 0..self.number()? {
+            let times = self.number()? as usize;
+            if times == 0 || words.len() + 2 * times > MOST_FED {
+                return Err(format!("a run of {times:x} times two words"));
+            }
+            words.extend([self.word()?, self.word()?].repeat(times));
+        }
+        words.extend(self.list()?);
+        if words.len() > MOST_FED {
+            return Err("more words than can be fed".to_string());
+        }
+        if is_scrambled {
+            return Ok(words);
+        }
+        let mut scrambled = vec![0; words.len()];
+        match scramble(history, &words, &mut scrambled) {
+            Ok(_) => Ok(scrambled),
+            Err(_) => Err("a word or a history to scramble with is above 3FF".to_string()),
+        }
+    }
+
+    /// "the fifteen numbers of a session [..], in this order"
+    pub fn session(&mut self) -> Result<Numbers, String> {
+        Ok(Numbers {
+            open: self.flag()?,
+            raster: self.number()?,
+            history: self.word()?,
+            last: [self.number()?, self.number()?],
+            ahead: self.byte()?,
+            seen: self.flag()?,
+            pairs: self.number()?,
+            bit: self.byte()?,
+            line: self.number()?,
+            carry: self.carry()?,
+            rows: self.number()?,
+            faults: self.number()?,
+        })
     }
 
     pub fn end(&mut self) -> Result<(), String> {

@@ -9,6 +9,7 @@ use crate::words::{all_words, bits_of, bits_of_all, fill, is_word, word_of, word
 const HISTORY_BITS: usize = WORD_BITS;
 const SYNC_ONES: usize = 20;
 const SYNC_ZEROS: usize = 40;
+pub const SYNC_BITS: usize = SYNC_ONES + SYNC_ZEROS;
 
 /// "s(n) = w(n) xor w(n-1)"
 fn s(w: &[bool], n: usize) -> bool {
@@ -16,7 +17,7 @@ fn s(w: &[bool], n: usize) -> bool {
 }
 
 /// The history's cable bits, then those of the words.
-fn scrambled(history: u16, words: &[u16]) -> Vec<bool> {
+pub fn scrambled(history: u16, words: &[u16]) -> Vec<bool> {
     let mut w = bits_of(history);
     for d in bits_of_all(words) {
         let n = w.len();
@@ -29,18 +30,18 @@ fn scrambled(history: u16, words: &[u16]) -> Vec<bool> {
 }
 
 /// "d(n) = s(n) xor s(n-5) xor s(n-9)", for each bit after the history.
-fn unscrambled(w: &[bool]) -> Vec<bool> {
+pub fn unscrambled(w: &[bool]) -> Vec<bool> {
     (HISTORY_BITS..w.len())
         .map(|n| s(w, n) ^ s(w, n - 5) ^ s(w, n - 9))
         .collect()
 }
 
-fn cable_bits(history: u16, words: &[u16]) -> Vec<bool> {
+pub fn cable_bits(history: u16, words: &[u16]) -> Vec<bool> {
     [bits_of(history), bits_of_all(words)].concat()
 }
 
 /// "Scrambling and unscrambling answer the next history too; for no words, the one given."
-fn next_history(w: &[bool]) -> u16 {
+pub fn next_history(w: &[bool]) -> u16 {
     word_of(&w[w.len() - HISTORY_BITS..])
 }
 
@@ -79,7 +80,7 @@ pub fn unscramble_word(history: u16, word: u16) -> u16 {
 }
 
 /// "A sync is 20 ones then 40 zeros."
-fn is_sync(bits: &[bool]) -> bool {
+pub fn is_sync(bits: &[bool]) -> bool {
     let (ones, zeros) = bits.split_at(SYNC_ONES);
     ones.iter().all(|&bit| bit) && zeros.iter().all(|&bit| !bit)
 }
@@ -88,9 +89,7 @@ fn is_sync(bits: &[bool]) -> bool {
 pub fn find_sync(words: &[u16]) -> Result<Option<usize>, Refusal> {
     refuse(&[(Refusal::Word, !all_words(words))])?;
     // "found at any bit of the unscrambled stream"
-    Ok(bits_of_all(words)
-        .windows(SYNC_ONES + SYNC_ZEROS)
-        .position(is_sync))
+    Ok(bits_of_all(words).windows(SYNC_BITS).position(is_sync))
 }
 
 #[cfg(test)]

@@ -43,3 +43,8 @@ pub const BUILD_ROW: u32 = 0x62;
 pub const JUDGE_ROW: u32 = 0x63;
 pub const ROW_REFUSAL: u32 = 0x64;
 pub const ROW_LAYOUT: u32 = 0x65;
+
+pub const BEGIN: u32 = 0x70;
+pub const FEED: u32 = 0x71;
+pub const END: u32 = 0x72;
+pub const MODULE: u32 = 0x73;

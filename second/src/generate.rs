@@ -5,13 +5,22 @@ mod codes;
 mod coverage;
 mod faults;
 mod lists;
+mod modules;
 mod packet_requests;
 mod pieces;
 mod rasters;
 mod regions;
 mod row_requests;
 mod rows;
+#[cfg(test)]
+mod session_coverage;
+mod session_requests;
+mod sessions;
+mod signals;
+mod streams;
 mod syncs;
+#[cfg(test)]
+mod whole_streams;
 
 use crate::functions::*;
 use crate::random::Random;
@@ -21,7 +30,7 @@ type Request = Vec<u32>;
 type Maker = fn(&mut Generator) -> Request;
 
 /// How often each function is asked for; the more there is to get wrong, the oftener.
-const MAKERS: [(u32, Maker); 37] = [
+const MAKERS: [(u32, Maker); 41] = [
     (2, Generator::all_words),
     (1, Generator::is_reserved),
     (1, Generator::with_bit_nine),
@@ -59,6 +68,10 @@ const MAKERS: [(u32, Maker); 37] = [
     (13, Generator::judge_row),
     (4, Generator::row_refusal),
     (2, Generator::row_layout),
+    (5, Generator::begin),
+    (35, Generator::feed),
+    (7, Generator::end),
+    (11, Generator::module),
 ];
 
 pub struct Generator {

@@ -18,6 +18,7 @@ mod refusal;
 mod requests;
 mod runs;
 mod search;
+mod session;
 mod timing;
 mod vectors;
 mod words;

@@ -14,6 +14,8 @@ pub enum Refusal {
     Line = 5,
     /// "in building a packet: DID byte 00, over 255 user words, or a reserved user word"
     Packet = 6,
+    /// "begin when open; feed or end when not; a session number outside the range docs/ gives for it"
+    Session = 7,
     /// "in building or correction, a timing code, line number, CRC, checksum or header word to be made would be a reserved code"
     Made = 8,
 }

@@ -2,6 +2,7 @@
 
 mod packets;
 mod rows;
+mod sessions;
 
 use crate::arguments::Arguments;
 use crate::functions::*;
@@ -36,6 +37,7 @@ fn call(arguments: &mut Arguments) -> Answer {
         XYZ..=READ_LINE => call_timing(function, arguments),
         BUILD_PACKET..=RIGHT_CHECKSUMS => packets::call(function, arguments),
         CHECK_ROW..=ROW_LAYOUT => rows::call(function, arguments),
+        BEGIN..=MODULE => sessions::call(function, arguments),
         _ => unknown(function),
     }
 }

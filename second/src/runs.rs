@@ -11,6 +11,27 @@ pub fn runs(words: &[u16]) -> Vec<u32> {
     numbers
 }
 
+/// "cable words by runs of two": a flag that says whether they are to be scrambled, the runs, and a LIST of those words at
+/// the end that no run is shorter for.
+pub fn signal(to_scramble: bool, words: &[u16]) -> Vec<u32> {
+    let (twos, odd) = words.as_chunks::<2>();
+    let mut runs: Vec<&[[u16; 2]]> = twos.chunk_by(|one, next| one == next).collect();
+    let mut listed = odd.len();
+    while runs.last().is_some_and(|run| run.len() == 1) {
+        runs.pop();
+        listed += 2;
+    }
+    let mut numbers = vec![to_scramble.into(), runs.len() as u32];
+    for run in runs {
+        let [one, other] = run[0].map(u32::from);
+        numbers.extend([run.len() as u32, one, other]);
+    }
+    let list = &words[words.len() - listed..];
+    numbers.push(listed as u32);
+    numbers.extend(list.iter().map(|&word| u32::from(word)));
+    numbers
+}
+
 #[cfg(test)]
 mod tests {
     use super::*;
@@ -19,5 +40,15 @@ mod tests {
     fn the_runs_are_the_longest() {
         assert_eq!(runs(&[]), [0]);
         assert_eq!(runs(&[5, 5, 0, 5]), [3, 2, 5, 1, 0, 1, 5]);
+    }
+
+    #[test]
+    fn a_signal_lists_the_words_after_its_last_run() {
+        assert_eq!(signal(true, &[]), [1, 0, 0]);
+        assert_eq!(signal(false, &[5]), [0, 0, 1, 5]);
+        assert_eq!(
+            signal(false, &[5, 6, 5, 6, 1, 2, 3]),
+            [0, 1, 2, 5, 6, 3, 1, 2, 3]
+        );
     }
 }

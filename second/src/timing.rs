@@ -1,8 +1,11 @@
 //! Timing codes and line numbers.
 
-use crate::raster::{raster_of, raster_with_line};
+use crate::raster::{raster_of, raster_with_line, Raster};
 use crate::refusal::{refuse, Refusal};
 use crate::words::{is_word, word_of};
+
+/// The three words of each channel that a sync is made of: "20 ones then 40 zeros".
+pub const SYNC_WORDS: [u16; 3] = [0x3ff, 0x000, 0x000];
 
 /// "bit 9 is 1; bits 8, 7, 6 are F, V, H; bits 5 to 2 are V^H, F^H, F^V, F^V^H; bits 1, 0 are 0."
 pub fn xyz(f: bool, v: bool, h: bool) -> u16 {
@@ -65,8 +68,12 @@ pub fn read_line(code: u32, ln0: u16, ln1: u16) -> Result<u32, Refusal> {
         (Refusal::Word, !is_word(ln0)),
         (Refusal::Word, !is_word(ln1)),
     ])?;
-    let line = (1..=raster.rows).find(|&line| encode_line(line) == (ln0, ln1));
-    Ok(line.unwrap_or(0))
+    Ok(line_of(raster, [ln0, ln1]).unwrap_or(0))
+}
+
+/// The line that line words are exact for; words above 3FF are for none.
+pub fn line_of(raster: Raster, [ln0, ln1]: [u16; 2]) -> Option<u32> {
+    (1..=raster.rows).find(|&line| encode_line(line) == (ln0, ln1))
 }
 
 #[cfg(test)]

@@ -2,8 +2,11 @@
 
 mod built;
 mod damaged;
+mod modules;
 mod packets;
 mod refused;
+mod row_ends;
+mod sessions;
 mod wiped;
 
 use crate::functions::*;
@@ -42,6 +45,9 @@ pub fn all() -> Vec<Vector> {
         damaged::all(),
         wiped::all(),
         refused::all(),
+        sessions::all(),
+        row_ends::all(),
+        modules::all(),
     ];
     groups.into_iter().flatten().collect()
 }

@@ -1,4 +1,4 @@
--- The inner loop by which a sync is found. No public contract cites this file.
+-- The inner loop by which a sync is found. Of this file the session's recogniser takes `slid`; no other public contract cites it.
 use mathlib.Core.Bool.{Bool}
 use mathlib.Core.List.{List, [], _∷_}
 use Prim.Native.Nat.{ℕ, suc, _+_, _-_, _*_, _/_}

@@ -1,4 +1,5 @@
 // Answers requests, one a line (docs/REQUESTS.md). Proved safe, no more.
+use answers::arg;
 use libc::STDIN_FILENO;
 
 // What a hexadecimal digit stands for.
@@ -25,10 +26,18 @@ fn begin(args: &mut [u32], at: usize) -> usize {
     at
 }
 
+// Answers the request whose numbers these are.
+fn answer(args: &[u32]) {
+    match arg(args, 0) {
+        0x70..=0x73 => sessions::answer(args),
+        _ => rows::answer(args),
+    }
+}
+
 // A byte of a line whose number at a place is being read; answers the place where the next byte goes on.
 fn take(at: usize, byte: u8, args: &mut [u32]) -> usize {
     if byte == b'\n' {
-        rows::answer(args);
+        answer(args);
         return begin(args, 0);
     }
     if byte == b' ' {

@@ -1,7 +1,7 @@
 -- The layout of a row. All places are counted in units (for HD a pair, one word of each channel) from the row's start.
 use mathlib.Core.Bool.{Bool, true, false}
 use mathlib.Core.List.{List, _++_}
-use Prim.Native.Nat.{ℕ, _+_, _-_, _*_, _%_}
+use Prim.Native.Nat.{ℕ, _+_, _-_, _*_}
 use lib.ListN.{replicate}
 use Rattle.raster.specs.declared.Layout.{Layout}
 
@@ -29,10 +29,6 @@ blanks l = savAt l - blankAt l
 -- "A sync is 20 ones then 40 zeros": unit ones, then twice as many zeros
 abbrev pub syncOf : ℕ → List Bool
 syncOf unit = replicate unit true ++ replicate (2 * unit) false
-
--- "Its place fixes the grouping into words": the alignment is a place modulo the unit
-abbrev pub alignment : Layout → ℕ → ℕ
-alignment l place = place % l .unit
 
 -- HD: the unit is a pair of ten-bit words; two line number and two CRC words
 abbrev pub hdUnit : ℕ

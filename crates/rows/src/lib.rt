@@ -7,6 +7,7 @@ use packets::Channel;
 use row::Carry;
 use runs::byte;
 use runs::take_runs;
+use runs::then_carry;
 use runs::then_runs;
 
 // Answers the request whose numbers these are.
@@ -58,13 +59,6 @@ fn carry_of(args: &[u32]) -> Carry {
         return Carry::Nothing;
     }
     Carry::Registers(arg(args, 4), arg(args, 5))
-}
-
-fn then_carry(carry: Carry) {
-    let said = row::carried(carry);
-    then(flag(said.known));
-    then(said.y as u64);
-    then(said.c as u64);
 }
 
 fn find<'a>(raster: u32, line: u32, did: u8, sdid: u8, y: &'a [u16], c: &'a [u16]) {

@@ -7,6 +7,7 @@ use answers::flag;
 use answers::then;
 use answers::two;
 use answers::word;
+use row::Carry;
 use scan::Here;
 
 // Where a request goes on after a list, and how many words the list has.
@@ -96,6 +97,14 @@ pub fn then_runs(words: &[u16]) {
 fn first_runs(words: &[u16]) {
     first(run_count(words));
     each_run(words);
+}
+
+// A carry, after the first number of a line.
+pub fn then_carry(carry: Carry) {
+    let said = row::carried(carry);
+    then(flag(said.known));
+    then(said.y as u64);
+    then(said.c as u64);
 }
 
 // Answers the request whose numbers these are: those of one packet or region, 50 and 53 to 57, and those that `lists` answers.

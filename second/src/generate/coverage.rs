@@ -11,15 +11,21 @@ use crate::layout::Layout;
 use crate::packet::{at, wipe, Found};
 use crate::random::Random;
 use crate::requests::{answer, format_line};
+use std::sync::OnceLock;
 
 const COUNT: usize = 10_000;
 
 /// Requests of the functions that a test asks about.
-fn requests(functions: &[u32]) -> Vec<Vec<u32>> {
-    let mut generator = Generator::new(1);
-    (0..COUNT)
-        .map(|_| generator.request())
+pub fn requests(functions: &[u32]) -> Vec<Vec<u32>> {
+    static ALL: OnceLock<Vec<Vec<u32>>> = OnceLock::new();
+    let all = ALL.get_or_init(|| {
+        let mut generator = Generator::new(1);
+        (0..COUNT).map(|_| generator.request()).collect()
+    });
+    let asked = all.iter();
+    asked
         .filter(|request| functions.contains(&request[0]))
+        .cloned()
         .collect()
 }
 
@@ -47,8 +53,16 @@ const OF_PACKETS_AND_ROWS: [u32; 14] = [
     ROW_LAYOUT,
 ];
 
+const OF_SESSIONS: [u32; 4] = [BEGIN, FEED, END, MODULE];
+
 #[test]
-fn most_requests_are_of_packets_and_rows() {
+fn about_a_quarter_of_the_requests_are_of_sessions() {
+    let asked = requests(&OF_SESSIONS).len();
+    assert!((COUNT / 5..COUNT * 3 / 10).contains(&asked));
+}
+
+#[test]
+fn most_other_requests_are_of_packets_and_rows() {
     let heaviest = [
         FIND_PACKET,
         EXTRACT,
@@ -59,7 +73,7 @@ fn most_requests_are_of_packets_and_rows() {
         JUDGE_ROW,
     ];
     let asked = requests(&OF_PACKETS_AND_ROWS).len();
-    assert!(2 * asked > COUNT);
+    assert!(2 * asked > COUNT - requests(&OF_SESSIONS).len());
     assert!(2 * requests(&heaviest).len() > asked);
 }
 
@@ -82,6 +96,10 @@ fn every_refusal_comes() {
         (BUILD_ROW, &[0, 1, 2, 3, 4, 5]),
         (ROW_REFUSAL, &[0, 2, 3, 4, 5]),
         (ROW_LAYOUT, &[0, 4, 5]),
+        (BEGIN, &[0, 4, 7]),
+        (FEED, &[0, 1, 3, 7]),
+        (END, &[0, 7]),
+        (MODULE, &[0, 4]),
     ] {
         let requests = requests(&[function]).into_iter();
         let come: Vec<u32> = requests.map(|request| answered(&request, 0)).collect();

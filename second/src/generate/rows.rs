@@ -48,12 +48,19 @@ pub fn row(random: &mut Random, wanted: Pair) -> Row {
     }
 }
 
-fn any_row(random: &mut Random, wanted: Pair) -> Row {
-    let head = head(random);
+/// A row with packets of the wanted pair or others, and the CRC words that its carry asks for.
+pub fn row_with_packets(random: &mut Random, head: Head, wanted: Pair) -> Row {
     let layout = head.layout();
     let words = BLANKING.map(|blanking| channel(random, &layout, blanking, wanted));
     let mut row = Row { head, words };
     make_crc_right(&mut row);
+    row
+}
+
+fn any_row(random: &mut Random, wanted: Pair) -> Row {
+    let head = head(random);
+    let layout = head.layout();
+    let mut row = row_with_packets(random, head, wanted);
     for _ in 0..random.pick(&[0, 0, 1, 1, 1, 2, 3]) {
         damage(random, &layout, &mut row);
     }
@@ -77,7 +84,7 @@ pub fn head(random: &mut Random) -> Head {
     Head { code, line, carry }
 }
 
-fn carried(random: &mut Random) -> u32 {
+pub fn carried(random: &mut Random) -> u32 {
     let any = random.below(0x40000);
     random.pick(&[0, 0x3ffff, any, any])
 }
@@ -119,7 +126,7 @@ fn make_crc_right(row: &mut Row) {
     }
 }
 
-fn damage(random: &mut Random, layout: &Layout, row: &mut Row) {
+pub fn damage(random: &mut Random, layout: &Layout, row: &mut Row) {
     let words = &mut row.words[random.place(2)];
     let bit = 1 << random.below(10);
     match random.below(10) {

@@ -1,0 +1,152 @@
+-- A clean signal passes.
+use mathlib.Core.Path.{_≡_, refl, sym, ap, subst, _∙_}
+use mathlib.Core.Bool.{Bool, true}
+use mathlib.Core.List.{List, [], _∷_, _++_}
+use mathlib.Core.Logic.{inl}
+use mathlib.Core.Option.{none}
+use Prim.Native.Nat.{ℕ, zero, suc, _+_, _≤_, _<_}
+use native.Mathlib.Omega.{arith}
+use lib.ListN.{length, length-append}
+use borrow.Author.Tests.{le-ltb}
+use Rattle.bits.proofs.Choice.{and-true}
+use Rattle.raster.specs.Layout.{syncOf, hdUnit}
+use Rattle.raster.specs.Table.{lookedUp, entryOf}
+use Rattle.raster.specs.Lines.{lineRefusal}
+use Rattle.raster.proofs.Table.{lookedUp-range}
+use Rattle.raster.proofs.Lines.{lineRefusal-ok}
+use Rattle.align.specs.Sync.{firstPlace}
+use Rattle.plan.specs.Plan.{planOf}
+use Rattle.row.specs.declared.Carry.{Carry}
+use Rattle.row.specs.declared.Carry.the-variants.{Nothing}
+use Rattle.recogniser.proofs.Windows.{lastOf}
+use Rattle.judging.specs.Happening.{noTrack, lineAfter}
+use Rattle.tally.specs.declared.Verdict.the-variants.{Pass}
+use Rattle.tally.specs.Tally.{noCounts}
+use Rattle.stepper.specs.Step.{Run, totalOf}
+use Rattle.stepper.proofs.Stepping.{steps-of-append}
+use Rattle.module.specs.Module.{Answer, listed, begunRun, answerIn, afterBits, bitsOf, moduleOf}
+use Rattle.clean.specs.Signal.{Content, lawfulRow, rowBits, carryFrom, signalBits, lawful, OnlyAtStart, CleanPasses}
+use Rattle.clean.proofs.Built.{codes}
+use Rattle.clean.proofs.Verdicts.{LawfulRow}
+use Rattle.clean.proofs.Rests.{through, row-rest, steps-row, row-long}
+use Rattle.clean.proofs.Sequence.{lawful-row, total-low, Full, After, steps-rows, all-rows}
+use Rattle.clean.proofs.Start.{slides-start, first-code}
+use Rattle.clean.proofs.Tail.{steps-last, Told, tail}
+
+abbrev passed : ℕ → ℕ → Answer
+passed code rows = record { raster = code; counts = record { rows = rows; faults = 0 }; verdict = Pass }
+
+module _ (code line : ℕ) (k next : Content) (ks : List Content) (p q : List Bool)
+    (ok : lineRefusal code line ≡ 0)
+    (count : length ks ≡ lookedUp code .raster .rows)
+    (right : lawful code line (k ∷ next ∷ ks) ≡ true)
+    (first : firstPlace (syncOf hdUnit) p ≡ none)
+    (short : length q < 80)
+    (only : OnlyAtStart (signalBits code line Nothing (k ∷ next ∷ ks)) q)
+  where
+    abbrev rows : List Bool
+    rows = signalBits code line Nothing (k ∷ next ∷ ks)
+
+    abbrev total : ℕ
+    total = totalOf code
+
+    parts : (lawfulRow (planOf code line) k ≡ true) × (lawful code (lineAfter code line) (next ∷ ks) ≡ true)
+    unfolding lawful
+    parts = and-true (lawfulRow (planOf code line) k) _ right
+
+    row : LawfulRow code line Nothing k
+    row = lawful-row code line Nothing k ok refl (parts .0)
+
+    first-row : Full code line Nothing k noCounts (through code (rowBits (planOf code line) Nothing k) (through code p begunRun))
+    first-row =
+        let is = codes code line ok in
+        record {
+          row = row;
+          track = noTrack;
+          expected = inl refl;
+          carried = refl;
+          stands =
+              rw (steps-row code line Nothing k (through code p begunRun))
+              (row-rest code line Nothing k row noTrack noCounts _
+              (first-code code total p (planOf code line .codes .eav) first (is .eav-low) (is .eav-is)));
+        }
+
+    rows-after : After code (length ks) (through code rows (through code p begunRun))
+    rows-after =
+        let r = lookedUp-range code (lineRefusal-ok code line ok .0) in
+        rw (steps-rows code line Nothing k (next ∷ ks) (through code p begunRun))
+        (all-rows code line k next ks _ (omega (arith, r .rows-high)) first-row (parts .1))
+
+    rows-long : 60 ≤ length rows
+    unfolding signalBits
+    rows-long =
+        let later = signalBits code (lineAfter code line) (carryFrom k) (next ∷ ks) in
+        omega (arith, length-append (rowBits (planOf code line) Nothing k) later, row-long code line Nothing k)
+
+    after-last : rows-after .stands .last ≡ lastOf (p ++ rows)
+    after-last =
+        ap (λ (x : Run). x .state .sight .window .last) (sym (rows-after .stands .same) ∙ sym (steps-of-append listed code total p rows begunRun))
+        ∙ steps-last code total (p ++ rows) begunRun
+        ∙ slides-start (p ++ rows)
+
+    told : Told (record { rows = length ks; faults = 0 }) (afterBits code (p ++ (rows ++ q)))
+    told =
+        let a = rows-after in
+        rw (steps-of-append listed code total p (rows ++ q) begunRun, steps-of-append listed code total rows q (through code p begunRun))
+        (tail code total (total-low code line ok) (a .track) (record { rows = length ks; faults = 0 }) (a .y) (a .c) p rows q rows-long short only _
+        (a .stands .last) (a .stands .same) after-last)
+
+    -- end's answer
+    passes : answerIn code (afterBits code (p ++ (rows ++ q))) ≡ passed code (lookedUp code .raster .rows)
+    passes = rw (told .counts, told .seen, count, le-ltb (lookedUp code .raster .rows) (lookedUp code .raster .rows) (omega arith))
+
+-- ---- "Code 0 stands for 7"
+
+plan-zero : (line : ℕ) → planOf 0 line ≡ planOf 7 line
+unfolding planOf lookedUp entryOf
+plan-zero line = refl
+
+line-zero : (line : ℕ) → lineAfter 0 line ≡ lineAfter 7 line
+unfolding lookedUp entryOf
+line-zero line = refl
+
+signal-zero : (ks : List Content) (line : ℕ) (carry : Carry) → signalBits 0 line carry ks ≡ signalBits 7 line carry ks
+unfolding signalBits
+signal-zero [] line carry = refl
+signal-zero (k ∷ ks) line carry = rw (plan-zero line, line-zero line, signal-zero ks (lineAfter 7 line) (carryFrom k))
+
+lawful-zero : (ks : List Content) (line : ℕ) → lawful 0 line ks ≡ lawful 7 line ks
+unfolding lawful
+lawful-zero [] line = refl
+lawful-zero (k ∷ ks) line = rw (plan-zero line, line-zero line, lawful-zero ks (lineAfter 7 line))
+
+-- ---- the theorem
+
+-- with the code that is meant
+Passes : ℕ → Type 0
+Passes code =
+    (line : ℕ) (ks : List Content) (bs p q : List Bool)
+    → lineRefusal code line ≡ 0
+    → length ks ≡ lookedUp code .raster .rows + 2
+    → lawful code line ks ≡ true
+    → bs ≡ p ++ (signalBits code line Nothing ks ++ q)
+    → firstPlace (syncOf hdUnit) p ≡ none
+    → length q < 80
+    → OnlyAtStart (signalBits code line Nothing ks) q
+    → answerIn code (afterBits code bs) ≡ passed code (lookedUp code .raster .rows)
+
+code-passes : (code : ℕ) → Passes code
+unfolding Passes
+code-passes code line [] bs p q ok count right split first short only = absurd (omega arith)
+code-passes code line (k ∷ []) bs p q ok count right split first short only = absurd (omega arith)
+code-passes code line (k ∷ next ∷ ks) bs p q ok count right split first short only =
+    rw split (passes code line k next ks p q ok (omega arith) right first short only)
+
+pub clean-passes : CleanPasses
+unfolding CleanPasses Passes moduleOf lookedUp entryOf
+clean-passes zero line ks ws p q ok count right split first short only =
+    let e = signal-zero ks line Nothing in
+    code-passes 7 line ks (bitsOf ws) p q ok count (sym (lawful-zero ks line) ∙ right) (split ∙ ap (λ (s : List Bool). p ++ (s ++ q)) e) first short
+    (subst (λ (s : List Bool). OnlyAtStart s q) e only)
+clean-passes (suc n) line ks ws p q ok count right split first short only =
+    code-passes (suc n) line ks (bitsOf ws) p q ok count right split first short only

@@ -1,0 +1,12 @@
+pub mod Sliding
+pub mod Quiet
+pub mod Spaced
+pub mod Stretch
+pub mod Built
+pub mod Verdicts
+pub mod Rests
+pub mod Sequence
+pub mod Start
+pub mod Tail
+pub mod Clean
+pub mod Short

@@ -1,0 +1,170 @@
+-- Laws of rows that are built line after line: each is judged by the EAV of the next.
+use mathlib.Core.Path.{_≡_, refl, ap, subst}
+use mathlib.Core.Bool.{Bool, true, _&&_}
+use mathlib.Core.List.{List, [], _∷_}
+use mathlib.Core.Logic.{_⊎_, inr}
+use Prim.Native.Nat.{ℕ, suc, _+_, _^_, _≤_, _<_}
+use native.Mathlib.Omega.{arith}
+use native.Mathlib.Decide.{decLt}
+use lib.Dec.{leb}
+use lib.ListN.{length}
+use borrow.Author.Tests.{le-leb, leb-true, lt-ltb, le-ltb}
+use Rattle.bits.proofs.Choice.{and-true}
+use Rattle.raster.specs.Table.{rasterOk, lookedUp, entryOf}
+use Rattle.raster.specs.Lines.{lineRefusal}
+use Rattle.raster.proofs.Table.{lookedUp-found, raster-range, lookedUp-range}
+use Rattle.raster.proofs.Lines.{lineOk-range, lineRefusal-ok, ok-lineRefusal, between-yes}
+use Rattle.crc.specs.Crc.{crcStart, crcWords}
+use Rattle.crc.proofs.Range.{crcWords-range}
+use Rattle.plan.specs.Plan.{planOf}
+use Rattle.stream.specs.Words.{yBlank, cBlank, trs}
+use Rattle.row.specs.declared.Carry.{Carry}
+use Rattle.row.specs.declared.Carry.the-variants.{Nothing, Registers}
+use Rattle.row.specs.Before.{carried, carryOk}
+use Rattle.judging.specs.declared.Track.{Track}
+use Rattle.judging.specs.declared.Happened.{Happened}
+use Rattle.judging.specs.Happening.{lineAfter, happenings}
+use Rattle.tally.specs.declared.Counts.{Counts}
+use Rattle.tally.specs.Tally.{ceiling, raised, noCounts, tallied}
+use Rattle.stepper.specs.Step.{Run, totalOf, steps}
+use Rattle.stepper.proofs.Stepping.{steps-of-append}
+use Rattle.module.specs.Module.{listed}
+use Rattle.clean.specs.Signal.{Content, lawfulRow, rowBits, carryFrom, signalBits, lawful}
+use Rattle.clean.proofs.Stretch.{sent, Stands, eav-code}
+use Rattle.clean.proofs.Built.{lawful-channel, codes}
+use Rattle.clean.proofs.Verdicts.{ysOf, csOf, LawfulRow, rightRow, whole-built}
+use Rattle.clean.proofs.Rests.{through, row-rest, steps-row}
+
+-- ---- lines and carries
+
+pub next-line : (code line : ℕ) → lineRefusal code line ≡ 0 → lineRefusal code (lineAfter code line) ≡ 0
+next-line code line ok =
+    let r = lineRefusal-ok code line ok in
+    let o = lineOk-range code line (r .0) (r .1) in
+    let rows : lookedUp code .raster .rows ≡ entryOf code .rows = ap (λ l. l .raster .rows) (lookedUp-found code (r .0)) in
+    ok-lineRefusal code (lineAfter code line) (r .0) (go (r .0) rows (decLt line (lookedUp code .raster .rows)))
+  where
+    go : rasterOk code ≡ true → lookedUp code .raster .rows ≡ entryOf code .rows → Dec (line < lookedUp code .raster .rows)
+        → (leb 1 (lineAfter code line) && leb (lineAfter code line) (entryOf code .rows)) ≡ true
+    go raster rows (yes l) =
+        rw (lt-ltb line (lookedUp code .raster .rows) l) (between-yes 1 (entryOf code .rows) (line + 1) (omega arith) (omega arith))
+    go raster rows (no g) =
+        rw (le-ltb line (lookedUp code .raster .rows) (omega arith))
+        (between-yes 1 (entryOf code .rows) 1 (omega arith) (omega (arith, raster-range code raster .rows-low)))
+
+pub carryFrom-ok : (k : Content) → carryOk (carryFrom k) ≡ true
+carryFrom-ok k =
+    rw (
+      le-leb (crcWords crcStart (k .y .active)) 0x3ffff (omega (arith, crcWords-range crcStart (k .y .active) (omega arith))),
+      le-leb (crcWords crcStart (k .c .active)) 0x3ffff (omega (arith, crcWords-range crcStart (k .c .active) (omega arith))),
+    )
+
+registers : (carry : Carry) → carryOk carry ≡ true → (carried carry .y < 2 ^ 18) × (carried carry .c < 2 ^ 18)
+registers Nothing e = (omega arith, omega arith)
+registers (Registers y c) e =
+    let b = and-true (leb y 0x3ffff) _ e in
+    (omega (arith, leb-true y 0x3ffff (b .0)), omega (arith, leb-true c 0x3ffff (b .1)))
+
+pub lawful-row : (code line : ℕ) (carry : Carry) (k : Content) → lineRefusal code line ≡ 0 → carryOk carry ≡ true
+    → lawfulRow (planOf code line) k ≡ true → LawfulRow code line carry k
+lawful-row code line carry k ok right good =
+    let r = registers carry right in
+    let b = carried carry in
+    let l = and-true _ _ good in
+    record {
+      ok = ok;
+      registers = right;
+      y = lawful-channel code line ok (b .known) (b .y) yBlank (k .y) (r .0) (λ e. omega arith) (omega arith) (l .0);
+      c = lawful-channel code line ok (b .known) (b .c) cBlank (k .c) (r .1) (λ e. omega arith) (omega arith) (l .1);
+    }
+
+pub total-low : (code line : ℕ) → lineRefusal code line ≡ 0 → 1 ≤ totalOf code
+total-low code line ok = omega (arith, lookedUp-range code (lineRefusal-ok code line ok .0) .total-low)
+
+-- ---- row after row
+
+-- a row whose T pairs have ended, and what is expected of it
+pub record Full (code line : ℕ) (carry : Carry) (k : Content) (n : Counts) (x : Run) : Type 0 where
+  pub row : LawfulRow code line carry k
+  pub track : Track
+  pub expected : (track .line ≡ 0) ⊎ (track .line ≡ line)
+  pub carried : track .carry ≡ carry
+  pub stands : Stands 0 (totalOf code) 0 track n (ysOf code line carry k) (csOf code line carry k) x
+
+-- the counts after it was judged
+abbrev judgedCounts : Bool → Counts → Counts
+judgedCounts known n = record { rows = raised known (n .rows); faults = n .faults }
+
+module _ (code line : ℕ) (carry : Carry) (k next : Content) (n : Counts) (x : Run) where
+  row-next : Full code line carry k n x → lawfulRow (planOf code (lineAfter code line)) next ≡ true
+      → Full code (lineAfter code line) (carryFrom k) next (judgedCounts (carried carry .known) n)
+      (through code (rowBits (planOf code (lineAfter code line)) (carryFrom k) next) x)
+  unfolding tallied
+  row-next f good =
+      let l = lineAfter code line in
+      let row = lawful-row code l (carryFrom k) next (next-line code line (f .row .ok)) (carryFrom-ok k) good in
+      let is = codes code l (row .ok) in
+      let right = whole-built code line carry k (f .row) (f .track) (f .expected) (f .carried) in
+      let e = planOf code l .codes .eav in
+      let opens = eav-code code (totalOf code) (f .track) n e 0 (ysOf code line carry k) (csOf code line carry k) x (is .eav-low) (is .eav-is) in
+      let s = opens (total-low code line (f .row .ok)) (f .stands) in
+      let t = rightRow code line carry k .track in
+      let m = judgedCounts (carried carry .known) n in
+      let x1 = sent code (totalOf code) (trs e) (trs e) x in
+      let judged = subst (λ (h : Happened). Stands e 4 0 (h .track) (tallied (happenings (h .happening)) n) (trs e) (trs e) x1) right s in
+      record {
+        row = row;
+        track = t;
+        expected = inr refl;
+        carried = refl;
+        stands = rw (steps-row code l (carryFrom k) next x) (row-rest code l (carryFrom k) next row t m x1 judged);
+      }
+
+-- the last row's T pairs have ended, and so many rows have counted
+pub record After (code rows : ℕ) (x : Run) : Type 0 where
+  pub track : Track
+  pub y : List ℕ
+  pub c : List ℕ
+  pub stands : Stands 0 (totalOf code) 0 track (record { rows = rows; faults = 0 }) y c x
+
+pub steps-rows : (code line : ℕ) (carry : Carry) (k : Content) (ks : List Content) (x : Run)
+    → through code (signalBits code line carry (k ∷ ks)) x
+    ≡ through code (signalBits code (lineAfter code line) (carryFrom k) ks) (through code (rowBits (planOf code line) carry k) x)
+unfolding signalBits
+steps-rows code line carry k ks x =
+    steps-of-append listed code (totalOf code) (rowBits (planOf code line) carry k) (signalBits code (lineAfter code line) (carryFrom k) ks) x
+
+-- each row after one whose CRC could be judged counts
+known-rows : (ks : List Content) (code line : ℕ) (carry : Carry) (k : Content) (rows : ℕ) (x : Run)
+    → carried carry .known ≡ true → rows + length ks < ceiling
+    → Full code line carry k (record { rows = rows; faults = 0 }) x → lawful code (lineAfter code line) ks ≡ true
+    → After code (rows + length ks) (through code (signalBits code (lineAfter code line) (carryFrom k) ks) x)
+unfolding steps signalBits lawful
+known-rows [] code line carry k rows x known low f good =
+    let e : rows ≡ rows + 0 = omega arith in
+    subst (λ (r : ℕ). After code r x) e (record { track = f .track; y = ysOf code line carry k; c = csOf code line carry k; stands = f .stands })
+known-rows (next ∷ ks) code line carry k rows x known low f good =
+    let l = lineAfter code line in
+    let g = and-true (lawfulRow (planOf code l) next) _ good in
+    let e : rows + 1 + length ks ≡ rows + suc (length ks) = omega arith in
+    let x′ = through code (rowBits (planOf code l) (carryFrom k) next) x in
+    let n : Counts = record { rows = rows; faults = 0 } in
+    let counted : judgedCounts (carried carry .known) n ≡ record { rows = rows + 1; faults = 0 } = rw (known, lt-ltb rows ceiling (omega arith)) in
+    subst (λ (r : ℕ). After code r (through code (signalBits code l (carryFrom k) (next ∷ ks)) x)) e
+    (rw (steps-rows code l (carryFrom k) next ks x)
+    (known-rows ks code l (carryFrom k) next (rows + 1) x′ refl (omega arith)
+    (subst (λ (n : Counts). Full code l (carryFrom k) next n x′) counted (row-next code line carry k next n x f (g .0)))
+    (g .1)))
+
+-- from the first row, which is without a carry: the second is the first that counts
+pub all-rows : (code line : ℕ) (k next : Content) (ks : List Content) (x : Run) → suc (length ks) < ceiling
+    → Full code line Nothing k noCounts x → lawful code (lineAfter code line) (next ∷ ks) ≡ true
+    → After code (length ks) (through code (signalBits code (lineAfter code line) (carryFrom k) (next ∷ ks)) x)
+unfolding lawful
+all-rows code line k next ks x low f good =
+    let l = lineAfter code line in
+    let g = and-true (lawfulRow (planOf code l) next) _ good in
+    let e : 0 + length ks ≡ length ks = omega arith in
+    subst (λ (r : ℕ). After code r (through code (signalBits code l (carryFrom k) (next ∷ ks)) x)) e
+    (rw (steps-rows code l (carryFrom k) next ks x)
+    (known-rows ks code l (carryFrom k) next 0 _ refl (omega arith) (row-next code line Nothing k next noCounts x f (g .0)) (g .1)))

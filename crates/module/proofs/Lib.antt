@@ -1,0 +1,13 @@
+pub mod Folds
+pub mod Tallies
+pub mod Sights
+pub mod Tracks
+pub mod Refusals
+pub mod Ranges
+pub mod Lengths
+pub mod Feeds
+pub mod Cuts
+pub mod Follows
+pub mod Between
+pub mod Own
+pub mod Verdicts

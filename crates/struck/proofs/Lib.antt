@@ -1,0 +1,14 @@
+pub mod Pairs
+pub mod Events
+pub mod Open
+pub mod Nones
+pub mod NoFault
+pub mod Ends
+pub mod Rows
+pub mod Second
+pub mod Lines
+pub mod Streams
+pub mod Two
+pub mod Stretches
+pub mod Changed
+pub mod Fails

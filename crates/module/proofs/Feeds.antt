@@ -10,7 +10,8 @@ use Rattle.bits.specs.Words.{words10}
 use Rattle.cable.specs.Words.{unscrambleWords}
 use Rattle.session.specs.declared.Session.{Session}
 use Rattle.stepper.specs.Step.{Run, run, totalOf}
-use Rattle.session.specs.Session.{inRange, feedRefusal, fedRun, fedSession, fed, unlessRefused, fedY, fedC}
+use Rattle.parts.specs.Parts.{unlessRefused}
+use Rattle.session.specs.Session.{inRange, feedRefusal, fedRun, fedSession, fed, fedY, fedC}
 use Rattle.module.specs.Runs.{Bench, bench, fedOnce, fedAll}
 use Rattle.module.proofs.Refusals.{Ready, feed-ready}
 use Rattle.module.proofs.Ranges.{fed-in-range, fed-keeps}

@@ -5,9 +5,8 @@ use mathlib.Core.List.{List, flatMap}
 use Prim.Native.Nat.{ℕ, zero, suc, _≤_, min}
 use native.Mathlib.Omega.{arith}
 use lib.ListN.{length}
-use borrow.Author.Tests.{le-leb}
 use Rattle.raster.specs.Table.{meant, rasterOk, lookedUp}
-use Rattle.raster.proofs.Table.{meant-range, lookedUp-range, lookedUp-zero}
+use Rattle.raster.proofs.Table.{meant-ok, lookedUp-range, lookedUp-zero}
 use Rattle.stepper.specs.declared.State.{State}
 use Rattle.session.specs.declared.Ended.{Ended}
 use Rattle.tally.specs.Tally.{verdictOf}
@@ -63,8 +62,7 @@ module _ (code : ℕ) (ok : rasterOk code ≡ true) where
     unfolding fedRun
     state-after ws =
         let none : min 0 (totalOf (meant code)) ≡ 0 = omega arith in
-        let meant-ok : rasterOk (meant code) ≡ true = le-leb (meant code) 11 (meant-range code ok .1) in
-        steps-follow (meant code) (totalOf (meant code)) (omega (arith, lookedUp-range (meant code) meant-ok .total-low)) (bitsOf ws) (run startState y c)
+        steps-follow (meant code) (totalOf (meant code)) (omega (arith, lookedUp-range (meant code) (meant-ok code ok) .total-low)) (bitsOf ws) (run startState y c)
         begunRun record { state = refl; y = record { words = rw none; room = y-room }; c = record { words = rw none; room = c-room } }
         .state
 

@@ -13,8 +13,9 @@ use Rattle.recogniser.specs.declared.Place.{Place}
 use Rattle.recogniser.specs.declared.Sight.{Sight}
 use Rattle.recogniser.specs.declared.Event.{Event}
 use Rattle.recogniser.specs.declared.Event.the-variants.{Outside, Within, Pair, Opens, Whole, Early, Late, Astray}
-use Rattle.recogniser.specs.Sight.{isSync, yWord, isEav, aheadAfter, windowAfter}
+use Rattle.recogniser.specs.Sight.{isSync, aheadAfter, windowAfter}
 use Rattle.recogniser.specs.Event.{isFourth, eventOf, eavEnds, place, nowhere, opened, placeAfter, looked}
+use Rattle.recogniser.proofs.Events.{eavEnds-ahead}
 use Rattle.session.specs.Session.{placeIn, aheadIn, sightIn}
 
 -- ---- place and ahead in range, in two cases: no row is open, or one is
@@ -155,7 +156,7 @@ sight-kept total b s t h =
     last = slid (s .window .last) b
 
     one : eavEnds (s .window .ahead) last ≡ true → s .window .ahead ≡ 1
-    one e = eqb-true (s .window .ahead) 1 (and-true (eqb (s .window .ahead) 1) (isEav (yWord last)) e .0)
+    one = eavEnds-ahead (s .window .ahead) last
 
     Kept : Type 0
     Kept = After total (s .window .ahead) (s .place) (eventOf total (s .window .ahead) (s .place) last) (isSync last)

@@ -9,7 +9,7 @@ use borrow.Author.Tests.{le-leb, lt-leb}
 use Rattle.parts.specs.Parts.{any, laid, laidUnless}
 use Rattle.parts.proofs.Comparing.{any-cons}
 use Rattle.parts.proofs.Inside.{length-part}
-use Rattle.parts.proofs.Laid.{laid-of-append}
+use Rattle.parts.proofs.Laid.{laid-of-append, unlessRefused-refused}
 use Rattle.scan.specs.Scan.{Packet, wordsOf, scan, packetsOf}
 use Rattle.scan.proofs.Pieces.{AtWhole}
 use Rattle.scan.proofs.Remade.{isPacket, unsettled, scan-of-settled}
@@ -95,10 +95,6 @@ extractedFor-refused : (n : ℕ) (packets : List ℕ) → (n ≡ 0 → ⊥) → 
 extractedFor-refused zero packets bad = absurd (bad refl)
 extractedFor-refused (suc n) packets bad = refl
 
-laidUnless-refused : (n : ℕ) (packets out : List ℕ) → (n ≡ 0 → ⊥) → laidUnless n packets out ≡ out
-laidUnless-refused zero packets out bad = absurd (bad refl)
-laidUnless-refused (suc n) packets out bad = refl
-
 module _ (code line : ℕ) (channel : Channel) (y c : List ℕ) (room : ℕ) (bad : rowRefusal code line y c ≡ 0 → ⊥) where
   refused-first : extractRefusal code line channel y c room ≡ rowRefusal code line y c
   unfolding extractRefusal
@@ -109,4 +105,4 @@ module _ (code line : ℕ) (channel : Channel) (y c : List ℕ) (room : ℕ) (ba
   extracted-refused = rw refused-first (extractedFor-refused (rowRefusal code line y c) _ bad)
 
   pub laid-refused : (packets out : List ℕ) → laidUnless (extractRefusal code line channel y c room) packets out ≡ out
-  laid-refused packets out = rw refused-first (laidUnless-refused (rowRefusal code line y c) packets out bad)
+  laid-refused packets out = rw refused-first (unlessRefused-refused (rowRefusal code line y c) (laid 0 packets out) out bad)

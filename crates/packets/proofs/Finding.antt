@@ -11,6 +11,7 @@ use Rattle.bits.specs.Choice.{if}
 use Rattle.bits.proofs.Choice.{false-not-true}
 use Rattle.parts.specs.Parts.{any}
 use Rattle.parts.proofs.Comparing.{any-cons, any-of-append}
+use Rattle.parts.proofs.Laid.{unlessRefused-refused}
 use Rattle.scan.specs.Scan.{Piece, Packet, wordsOf, pieceAt, scanFrom, scan}
 use Rattle.scan.proofs.Pieces.{pieceAt-some}
 use Rattle.scan.proofs.Remade.{isPacket, unsettled, scan-of-settled}
@@ -18,7 +19,7 @@ use Rattle.plan.specs.declared.Plan.{Plan}
 use Rattle.plan.specs.Plan.{planOf}
 use Rattle.plan.specs.Refusal.{rowRefusal}
 use Rattle.region.specs.Ancillary.{blankingOf, activeRegion, ancillary}
-use Rattle.packets.specs.Find.{wanted, found, unlessRefused, findOf}
+use Rattle.packets.specs.Find.{wanted, found, findOf}
 
 -- ---- pieces of no words, which no scan finds
 
@@ -97,11 +98,7 @@ module _ (did sdid : ℕ) where
   module _ (code line : ℕ) (y c : List ℕ) where
     pub findOf-refused : (rowRefusal code line y c ≡ 0 → ⊥) → findOf code line did sdid y c ≡ []
     unfolding findOf
-    findOf-refused bad = go (rowRefusal code line y c) _ bad
-      where
-        go : (n : ℕ) (ws : List ℕ) → (n ≡ 0 → ⊥) → unlessRefused n ws ≡ []
-        go zero ws bad = absurd (bad refl)
-        go (suc n) ws bad = refl
+    findOf-refused bad = unlessRefused-refused (rowRefusal code line y c) _ _ bad
 
     pub findOf-found : rowRefusal code line y c ≡ 0
         → findOf code line did sdid y c ≡ orElse (found did sdid (ancillary (planOf code line) y)) (found did sdid (ancillary (planOf code line) c))

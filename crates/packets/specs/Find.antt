@@ -1,10 +1,11 @@
 -- Finding a packet.
 use mathlib.Core.Bool.{Bool, false, _&&_}
 use mathlib.Core.List.{List, [], _∷_, _++_}
-use Prim.Native.Nat.{ℕ, zero, suc, _%_}
+use Prim.Native.Nat.{ℕ, _%_}
 use lib.Dec.{eqb}
 use lib.ListN.{getD}
 use Rattle.bits.specs.Choice.{if}
+use Rattle.parts.specs.Parts.{unlessRefused}
 use Rattle.scan.specs.Scan.{Piece, Word, Marker, Packet, wordsOf}
 use Rattle.plan.specs.Plan.{planOf}
 use Rattle.plan.specs.Refusal.{rowRefusal}
@@ -22,13 +23,9 @@ unfoldable pub found : ℕ → ℕ → List Piece → List ℕ
 found did sdid [] = []
 found did sdid (p ∷ ps) = if (wanted did sdid p) (wordsOf p) (found did sdid ps)
 
--- nothing where the call is refused
-abbrev pub unlessRefused : ℕ → List ℕ → List ℕ
-unlessRefused zero ws = ws
-unlessRefused (suc n) ws = []
-
--- "Y before C"
+-- "Y before C"; nothing where the call is refused
 unfoldable pub findOf : ℕ → ℕ → ℕ → ℕ → List ℕ → List ℕ → List ℕ
 findOf code line did sdid y c =
     unlessRefused (rowRefusal code line y c)
     (found did sdid (ancillary (planOf code line) y ++ ancillary (planOf code line) c))
+    []

@@ -8,7 +8,7 @@ use native.Mathlib.Nat.{zero-add}
 use native.Mathlib.Decide.{decLe}
 use lib.ListN.{length, getD, take, drop, set, replicate, length-take, length-set, length-replicate, getD-replicate, drop-of-length-le}
 use lib.Seq.{drop-cons, drop-length, set-out, sets, sets-eq, take-set-le, drop-set-lt, drop-set-add, take-at, take-all}
-use Rattle.parts.specs.Parts.{part, laid}
+use Rattle.parts.specs.Parts.{part, laid, unlessRefused}
 
 -- ---- a turn of a loop, its end, and where no place is left
 
@@ -118,3 +118,9 @@ part-over-laid at count ws buffer k =
     ap (part at count) (sym (laid-start at ws buffer))
     ∙ ap (take count) (drop-to-laid at 0 ws buffer ∙ laid-front count ws (drop at buffer) k)
     ∙ take-front count ws (drop at buffer) k
+
+-- ---- unlessRefused
+
+pub unlessRefused-refused : (n : ℕ) (after before : List ℕ) → (n ≡ 0 → ⊥) → unlessRefused n after before ≡ before
+unlessRefused-refused zero after before bad = absurd (bad refl)
+unlessRefused-refused (suc n) after before bad = refl

@@ -31,7 +31,11 @@ unfoldable pub any : {A : Type 0} → (A → Bool) → List A → Bool
 any p [] = false
 any p (x ∷ xs) = p x || any p xs
 
--- "A refusal .. changes no buffer"; "Beyond what a result fills, a buffer keeps what it held."
+-- "A refusal .. changes no buffer": the words after a call that may be refused
+abbrev pub unlessRefused : ℕ → List ℕ → List ℕ → List ℕ
+unlessRefused zero after before = after
+unlessRefused (suc n) after before = before
+
+-- "Beyond what a result fills, a buffer keeps what it held."
 abbrev pub laidUnless : ℕ → List ℕ → List ℕ → List ℕ
-laidUnless zero result out = laid 0 result out
-laidUnless (suc n) result out = out
+laidUnless refusal result out = unlessRefused refusal (laid 0 result out) out

@@ -28,6 +28,9 @@ pub meant-range : (code : ℕ) → rasterOk code ≡ true → (1 ≤ meant code)
 meant-range zero h = (omega arith, omega arith)
 meant-range (suc n) h = (omega arith, leb-true (suc n) 11 h)
 
+pub meant-ok : (code : ℕ) → rasterOk code ≡ true → rasterOk (meant code) ≡ true
+meant-ok code ok = le-leb (meant code) 11 (meant-range code ok .1)
+
 -- ---- entryOf
 
 -- what passes at every entry of the table passes at the row of every code

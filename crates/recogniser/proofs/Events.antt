@@ -2,15 +2,17 @@
 use mathlib.Core.Path.{_≡_, refl}
 use mathlib.Core.Bool.{Bool, true, false, _||_}
 use Prim.Native.Nat.{ℕ, _-_}
-use borrow.Author.Tests.{eq-eqb, ne-eqb}
+use lib.Dec.{eqb}
+use borrow.Author.Tests.{eqb-true, eq-eqb, ne-eqb}
 use Rattle.bits.specs.Bits.{number}
+use Rattle.bits.proofs.Choice.{and-true}
 use Rattle.raster.specs.Layout.{syncOf, hdUnit}
 use Rattle.align.specs.Search.{slid}
 use Rattle.recogniser.specs.declared.Window.{Window}
 use Rattle.recogniser.specs.declared.Sight.{Sight}
 use Rattle.recogniser.specs.declared.Event.{Event}
-use Rattle.recogniser.specs.Sight.{isSync, windowAfter}
-use Rattle.recogniser.specs.Event.{eventOf, lookedAt, looked}
+use Rattle.recogniser.specs.Sight.{isSync, yWord, isEav, windowAfter}
+use Rattle.recogniser.specs.Event.{eavEnds, eventOf, lookedAt, looked}
 
 sync-number : number (syncOf hdUnit) ≡ 0xfffff
 unfolding number
@@ -21,6 +23,10 @@ isSync-number last e = rw sync-number (eq-eqb last 0xfffff e)
 
 pub isSync-other : (last : ℕ) → (last ≡ 0xfffff → ⊥) → isSync last ≡ false
 isSync-other last g = rw sync-number (ne-eqb last 0xfffff g)
+
+-- an EAV ends with its XYZ pair's last bit
+pub eavEnds-ahead : (ahead last : ℕ) → eavEnds ahead last ≡ true → ahead ≡ 1
+eavEnds-ahead ahead last e = eqb-true ahead 1 (and-true (eqb ahead 1) (isEav (yWord last)) e .0)
 
 pub or-true : (a : Bool) → (a || true) ≡ true
 or-true true = refl

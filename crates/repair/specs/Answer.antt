@@ -39,11 +39,6 @@ correctedY p carry wipe y = correctedStream p wipe yBlank (carried carry .known)
 abbrev pub correctedC : Plan → Carry → Bool → List ℕ → List ℕ
 correctedC p carry wipe c = correctedStream p wipe cBlank (carried carry .known) (carried carry .c) c
 
--- "A refusal .. changes no buffer"
-abbrev pub unlessRefused : ℕ → List ℕ → List ℕ → List ℕ
-unlessRefused zero result before = result
-unlessRefused (suc n) result before = before
-
 -- "check, correction and building answer the next [carry]"
 abbrev pub correctedFor : ℕ → Carry → Corrected
 correctedFor zero next = record { refusal = 0; carry = next }

@@ -10,7 +10,8 @@ ghost use Rattle.stream.specs.Words.{yBlank, cBlank};
 ghost use Rattle.row.specs.declared.Carry.the-variants.{Nothing};
 ghost use Rattle.row.specs.Row.{carryAfter};
 ghost use Rattle.repair.specs.Repair.{withCrc, correctedStream, putRight, withSums, withCodes, wipedIf};
-ghost use Rattle.repair.specs.Answer.{correctRefusal, corrected, correctedC, correctedFor, correctedY, unlessRefused};
+ghost use Rattle.parts.specs.Parts.{unlessRefused};
+ghost use Rattle.repair.specs.Answer.{correctRefusal, corrected, correctedC, correctedFor, correctedY};
 
 pub struct Corrected {
     pub refusal: u8,

@@ -13,7 +13,7 @@ use Rattle.bits.proofs.Choice.{and-true}
 use Rattle.raster.specs.Table.{rasterOk}
 use Rattle.session.specs.declared.Session.{Session}
 use Rattle.stepper.specs.Step.{Run, totalOf}
-use Rattle.session.specs.Session.{rasterIn, inRange, feedRefusal, fedBy, unlessRefused}
+use Rattle.session.specs.Session.{rasterIn, inRange, feedRefusal, fedBy}
 
 -- ---- the code's tests
 
@@ -30,10 +30,6 @@ not-or-not false b t e = or-not true b t e
 pub fedBy-refused : (n : ℕ) (s : Session) (ws : List ℕ) (x : Run) → (n ≡ 0 → ⊥) → fedBy n s ws x ≡ record { refusal = n; session = s }
 fedBy-refused zero s ws x bad = absurd (bad refl)
 fedBy-refused (suc n) s ws x bad = refl
-
-pub unlessRefused-refused : (n : ℕ) (after before : List ℕ) → (n ≡ 0 → ⊥) → unlessRefused n after before ≡ before
-unlessRefused-refused zero after before bad = absurd (bad refl)
-unlessRefused-refused (suc n) after before bad = refl
 
 -- a session and words that are fed
 pub record Feeds (s : Session) (ws : List ℕ) : Type 0 where

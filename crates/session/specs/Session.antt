@@ -8,6 +8,7 @@ use Rattle.bits.specs.Choice.{if}
 use Rattle.bits.specs.Bits.{wordBits}
 use Rattle.bits.specs.Words.{words10}
 use Rattle.raster.specs.Table.{meant, rasterOk, lookedUp}
+use Rattle.parts.specs.Parts.{unlessRefused}
 use Rattle.cable.specs.Words.{startHistory, unscrambleNext, unscrambleWords}
 use Rattle.row.specs.Before.{carried, carryOk}
 use Rattle.recogniser.specs.declared.Place.{Place}
@@ -109,10 +110,6 @@ unfoldable pub fed : Session → List ℕ → List ℕ → List ℕ → Fed
 fed s ws y c = fedBy (feedRefusal s ws y c) s ws (fedRun s ws y c)
 
 -- a buffer afterwards: "changes no buffer" where it is refused
-abbrev pub unlessRefused : ℕ → List ℕ → List ℕ → List ℕ
-unlessRefused zero after before = after
-unlessRefused (suc n) after before = before
-
 unfoldable pub fedY : Session → List ℕ → List ℕ → List ℕ → List ℕ
 fedY s ws y c = unlessRefused (feedRefusal s ws y c) (fedRun s ws y c .y) y
 

@@ -5,12 +5,12 @@ use Prim.Native.Nat.{ℕ, _+_, _≤_, _<_}
 use lib.Dec.{leb, eqb}
 use borrow.Author.Tests.{eqb-true, eqb-false, leb-true, leb-false}
 use Rattle.bits.specs.Choice.{if}
-use Rattle.bits.proofs.Choice.{and-true}
 use Rattle.recogniser.specs.declared.Place.{Place}
 use Rattle.recogniser.specs.declared.Event.{Event}
 use Rattle.recogniser.specs.declared.Event.the-variants.{Outside, Within, Pair, Opens, Whole, Early, Late, Astray}
-use Rattle.recogniser.specs.Sight.{isSync, yWord, isEav}
+use Rattle.recogniser.specs.Sight.{isSync}
 use Rattle.recogniser.specs.Event.{eavEnds, isFourth, eventOf}
+use Rattle.recogniser.proofs.Events.{eavEnds-ahead}
 
 -- T, the bits of an XYZ pair to come, the place, the last bits
 pub data Cause (total ahead : ℕ) (p : Place) (last : ℕ) : Event → Type 0 where
@@ -27,16 +27,13 @@ pub cause-of : (total ahead : ℕ) (p : Place) (last : ℕ) → Cause total ahea
 unfolding eventOf
 cause-of total ahead p last = go (eqb (p .pairs) 0) (eavEnds ahead last) (isFourth total (p .pairs)) (leb 19 (p .bit)) (isSync last) refl refl refl refl refl
   where
-    one : eavEnds ahead last ≡ true → ahead ≡ 1
-    one e = eqb-true ahead 1 (and-true (eqb ahead 1) (isEav (yWord last)) e .0)
-
     go : (none eav fourth full sync : Bool) → eqb (p .pairs) 0 ≡ none → eavEnds ahead last ≡ eav → isFourth total (p .pairs) ≡ fourth
         → leb 19 (p .bit) ≡ full → isSync last ≡ sync
         → Cause total ahead p last (if none (if eav Opens Outside) (if eav (if fourth Whole Early) (if full (if fourth Late Pair) (if sync Astray Within))))
-    go true true fourth full sync n e f b s = opens (eqb-true (p .pairs) 0 n) (one e)
+    go true true fourth full sync n e f b s = opens (eqb-true (p .pairs) 0 n) (eavEnds-ahead ahead last e)
     go true false fourth full sync n e f b s = outside (eqb-true (p .pairs) 0 n)
-    go false true true full sync n e f b s = whole (one e) (leb-true (total + 3) (p .pairs) f)
-    go false true false full sync n e f b s = early (one e)
+    go false true true full sync n e f b s = whole (eavEnds-ahead ahead last e) (leb-true (total + 3) (p .pairs) f)
+    go false true false full sync n e f b s = early (eavEnds-ahead ahead last e)
     go false false true true sync n e f b s = late
     go false false false true sync n e f b s = pair (eqb-false (p .pairs) 0 n) (leb-true 19 (p .bit) b) (leb-false (total + 3) (p .pairs) f)
     go false false fourth false true n e f b s = astray

@@ -1,11 +1,9 @@
 -- Demand 3 (README) at the verdict: a changed run fails the module.
 use mathlib.Core.Path.{_≡_, sym, ap, _∙_}
-use mathlib.Core.Bool.{true}
 use mathlib.Core.List.{_++_}
-use Prim.Native.Nat.{ℕ}
-use borrow.Author.Tests.{le-leb, ne-eqb}
-use Rattle.raster.specs.Table.{meant, rasterOk}
-use Rattle.raster.proofs.Table.{meant-range}
+use borrow.Author.Tests.{ne-eqb}
+use Rattle.raster.specs.Table.{meant}
+use Rattle.raster.proofs.Table.{meant-ok}
 use Rattle.cable.specs.Words.{startHistory}
 use Rattle.cable.proofs.Words.{unscrambled-words-bits}
 use Rattle.stepper.specs.Step.{totalOf}
@@ -14,9 +12,6 @@ use Rattle.struck.specs.Struck.{StruckFails}
 use Rattle.struck.proofs.NoFault.{faults-none}
 use Rattle.struck.proofs.Stretches.{dataOf}
 use Rattle.struck.proofs.Changed.{struck, seen-changed}
-
-meant-ok : (code : ℕ) → rasterOk code ≡ true → rasterOk (meant code) ≡ true
-meant-ok code ok = le-leb (meant code) 11 (meant-range code ok .1)
 
 pub struck-fails : StruckFails
 unfolding StruckFails moduleOf

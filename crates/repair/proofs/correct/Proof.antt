@@ -2,9 +2,10 @@ use mathlib.Core.Path.{refl, sym, _∙_}
 use Rattle.scan.proofs.Remade.{unfit-never}
 use Rattle.region.specs.Ancillary.{ancillary}
 use Rattle.stream.specs.Words.{yBlank}
+use Rattle.parts.proofs.Laid.{unlessRefused-refused}
 use Rattle.repair.specs.Repair.{wipedIf}
 use Rattle.repair.specs.Answer.{correctRefusal, corrected}
-use Rattle.repair.proofs.Answers.{unlessRefused-refused, correctedFor-refused}
+use Rattle.repair.proofs.Answers.{correctedFor-refused}
 use Rattle.repair.proofs.Refusals.{correctRefusal-check}
 use borrow.Author.Needs.{needs}
 use Rattle.repair.proofs.correct.Statement.{statement}

@@ -4,10 +4,11 @@ use native.Mathlib.Omega.{arith}
 use borrow.Author.Needs.{needs}
 use Rattle.raster.specs.declared.LookedUp.{LookedUp}
 use Rattle.raster.proofs.Table.{lookedUp-range}
+use Rattle.parts.proofs.Laid.{unlessRefused-refused}
 use Rattle.stepper.specs.Step.{totalOf}
 use Rattle.session.specs.Session.{feedRefusal, fed, fedY, fedC}
 use Rattle.session.proofs.Feeding.{fedRun-steps}
-use Rattle.session.proofs.Refusing.{fedBy-refused, unlessRefused-refused, Feeds, feedRefusal-none}
+use Rattle.session.proofs.Refusing.{fedBy-refused, Feeds, feedRefusal-none}
 use Rattle.session.proofs.Session.feed.Statement.{statement}
 use Rattle.session.proofs.Session.feed.Tie as tie
 

@@ -18,7 +18,7 @@ fn s(w: &[bool], n: usize) -> bool {
 
 /// The history's cable bits, then those of the words.
 pub fn scrambled(history: u16, words: &[u16]) -> Vec<bool> {
-    let mut w = bits_of(history);
+    let mut w = bits_of(history).to_vec();
     for d in bits_of_all(words) {
         let n = w.len();
         // "s(n) = d(n) xor s(n-5) xor s(n-9)"
@@ -37,7 +37,7 @@ pub fn unscrambled(w: &[bool]) -> Vec<bool> {
 }
 
 pub fn cable_bits(history: u16, words: &[u16]) -> Vec<bool> {
-    [bits_of(history), bits_of_all(words)].concat()
+    [&bits_of(history)[..], &bits_of_all(words)].concat()
 }
 
 /// "Scrambling and unscrambling answer the next history too; for no words, the one given."

@@ -1,12 +1,18 @@
 //! Random requests over every function, valid and damaged.
 
+mod bad_jobs;
+mod camera;
+pub mod captures;
 mod codes;
 #[cfg(test)]
 mod coverage;
 mod faults;
+pub mod files;
+mod good_jobs;
 mod lists;
 mod modules;
 mod packet_requests;
+mod picture;
 mod pieces;
 mod rasters;
 mod regions;

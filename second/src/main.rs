@@ -3,6 +3,7 @@
 #![forbid(unsafe_code)]
 
 mod arguments;
+mod bench;
 mod build;
 mod cable;
 mod check;
@@ -10,6 +11,7 @@ mod correct;
 mod crc;
 mod functions;
 mod generate;
+mod job;
 mod layout;
 mod packet;
 mod random;
@@ -24,64 +26,93 @@ mod vectors;
 mod words;
 
 use std::env;
-use std::io::{stdin, stdout, BufRead, BufWriter, Write};
+use std::io::{self, stdin, stdout, BufRead, BufWriter, ErrorKind, Write};
 use std::process::ExitCode;
 
-const USAGE: &str = "usage: second answer | second requests SEED COUNT | second vectors";
+const USAGE: &str = "usage: second answer | requests SEED COUNT | vectors | bench | file SEED | captures | capture NAME";
+
+/// Why the program ends early.
+enum Failure {
+    Output(io::Error),
+    Message(String),
+}
+
+impl From<io::Error> for Failure {
+    fn from(error: io::Error) -> Self {
+        Self::Output(error)
+    }
+}
 
 fn main() -> ExitCode {
     let arguments: Vec<String> = env::args().skip(1).collect();
     let arguments: Vec<&str> = arguments.iter().map(String::as_str).collect();
-    match run(&arguments) {
-        Ok(()) => ExitCode::SUCCESS,
-        Err(message) => {
-            eprintln!("second: {message}");
-            ExitCode::FAILURE
+    let message = match run(&arguments) {
+        Ok(()) => return ExitCode::SUCCESS,
+        // Nobody reads on.
+        Err(Failure::Output(error)) if error.kind() == ErrorKind::BrokenPipe => {
+            return ExitCode::SUCCESS;
         }
-    }
+        Err(Failure::Output(error)) => error.to_string(),
+        Err(Failure::Message(message)) => message,
+    };
+    eprintln!("second: {message}");
+    ExitCode::FAILURE
 }
 
-fn run(arguments: &[&str]) -> Result<(), String> {
+fn run(arguments: &[&str]) -> Result<(), Failure> {
     let mut output = BufWriter::new(stdout().lock());
     match arguments {
         ["answer"] => print_answers(&mut output)?,
         ["requests", seed, count] => print_requests(&mut output, decimal(seed)?, decimal(count)?)?,
         ["vectors"] => print_vectors(&mut output)?,
-        _ => return Err(USAGE.to_string()),
+        ["bench"] => bench::bench(stdin().lock(), &mut output)?,
+        ["file", seed] => output.write_all(&generate::files::file(decimal(seed)?))?,
+        ["captures"] => print_captures(&mut output)?,
+        ["capture", name] => output.write_all(&capture(name)?)?,
+        _ => return Err(Failure::Message(USAGE.to_string())),
     }
-    output.flush().map_err(|error| error.to_string())
+    Ok(output.flush()?)
 }
 
-fn decimal(text: &str) -> Result<u64, String> {
-    text.parse()
-        .map_err(|_| format!("'{text}' is not a decimal number; {USAGE}"))
+fn decimal(text: &str) -> Result<u64, Failure> {
+    let message = |_| Failure::Message(format!("'{text}' is not a decimal number; {USAGE}"));
+    text.parse().map_err(message)
 }
 
-fn print_answers(output: &mut impl Write) -> Result<(), String> {
+fn print_answers(output: &mut impl Write) -> Result<(), Failure> {
     for (place, line) in stdin().lock().lines().enumerate() {
-        let line = line.map_err(|error| error.to_string())?;
-        let answer =
-            requests::answer(&line).map_err(|error| format!("request {}: {error}", place + 1))?;
-        print_line(output, &answer)?;
+        let line = line.map_err(|error| Failure::Message(error.to_string()))?;
+        let answer = requests::answer(&line)
+            .map_err(|error| Failure::Message(format!("request {}: {error}", place + 1)))?;
+        writeln!(output, "{answer}")?;
     }
     Ok(())
 }
 
-fn print_requests(output: &mut impl Write, seed: u64, count: u64) -> Result<(), String> {
+fn print_requests(output: &mut impl Write, seed: u64, count: u64) -> io::Result<()> {
     let mut generator = generate::Generator::new(seed);
     for _ in 0..count {
-        print_line(output, &requests::format_line(&generator.request()))?;
+        let request = generator.request();
+        writeln!(output, "{}", requests::format_line(&request))?;
     }
     Ok(())
 }
 
-fn print_vectors(output: &mut impl Write) -> Result<(), String> {
+fn print_vectors(output: &mut impl Write) -> io::Result<()> {
     for vector in vectors::all() {
-        print_line(output, &requests::format_line(&vector.request))?;
+        writeln!(output, "{}", requests::format_line(&vector.request))?;
     }
     Ok(())
 }
 
-fn print_line(output: &mut impl Write, line: &str) -> Result<(), String> {
-    writeln!(output, "{line}").map_err(|error| error.to_string())
+fn print_captures(output: &mut impl Write) -> io::Result<()> {
+    for name in generate::captures::names() {
+        writeln!(output, "{name}")?;
+    }
+    Ok(())
+}
+
+fn capture(name: &str) -> Result<Vec<u8>, Failure> {
+    let message = || Failure::Message(format!("there is no capture '{name}'; {USAGE}"));
+    generate::captures::capture(name).ok_or_else(message)
 }

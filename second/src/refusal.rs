@@ -18,6 +18,9 @@ pub enum Refusal {
     Session = 7,
     /// "in building or correction, a timing code, line number, CRC, checksum or header word to be made would be a reserved code"
     Made = 8,
+    /// "bench file: tag not of 1 to 32 bytes or not printable ASCII without spaces, options not two bytes or wipe not 0 or 1,
+    /// or cut short"
+    File = 9,
 }
 
 impl Refusal {

@@ -9,6 +9,7 @@ use crate::raster::raster_of;
 use crate::refusal::{refuse, Refusal};
 use crate::words::all_words;
 use module::Module;
+use std::fmt::{self, Display, Formatter};
 
 /// "The row buffers are lent to each feed": Y and C.
 pub type Buffers<'a> = [&'a mut [u16]; 2];
@@ -23,6 +24,17 @@ pub enum Verdict {
     Fail = 2,
     Short = 3,
     Pass = 4,
+}
+
+impl Display for Verdict {
+    fn fmt(&self, formatter: &mut Formatter) -> fmt::Result {
+        formatter.write_str(match self {
+            Self::NoSignal => "NO SIGNAL",
+            Self::Fail => "FAIL",
+            Self::Short => "SHORT",
+            Self::Pass => "PASS",
+        })
+    }
 }
 
 /// "End answers raster, both counts and verdict".

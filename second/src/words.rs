@@ -1,5 +1,6 @@
 //! Words of ten bits, held in 16, and their bits, lowest first.
 
+use std::array::from_fn;
 use std::ops::Range;
 
 pub const WORD_BITS: usize = 10;
@@ -26,8 +27,8 @@ pub fn with_bit_nine(number: u16) -> u16 {
 }
 
 /// The low ten bits, "each lowest bit first".
-pub fn bits_of(word: u16) -> Vec<bool> {
-    (0..WORD_BITS).map(|place| word >> place & 1 == 1).collect()
+pub fn bits_of(word: u16) -> [bool; WORD_BITS] {
+    from_fn(|place| word >> place & 1 == 1)
 }
 
 pub fn bits_of_all(words: &[u16]) -> Vec<bool> {

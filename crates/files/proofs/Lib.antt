@@ -1,0 +1,17 @@
+pub mod Reading
+pub mod Fuel
+pub mod Told
+pub mod Counts
+pub mod Tags
+pub mod OptionsRead
+pub mod WordsRead
+pub mod JobsRead
+pub mod FileRead
+pub mod Open
+pub mod NeverRefused
+pub mod Cuts
+pub mod Pieces
+pub mod Lines
+pub mod Ahead
+pub mod Append
+pub mod Example

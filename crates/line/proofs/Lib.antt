@@ -1,0 +1,4 @@
+pub mod Digits
+pub mod Writing
+pub mod Boxing
+pub mod Lengths

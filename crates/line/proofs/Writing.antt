@@ -1,0 +1,37 @@
+-- Laws of written: text after text, a turn of the loop and its end, and a number's last digit.
+use mathlib.Core.Path.{_≡_, refl, sym, ap, ap₂, _∙_}
+use mathlib.Core.List.{List, [], _∷_, _++_}
+use Prim.Native.Nat.{ℕ, _+_, _/_, _%_, _^_, _≤_, _<_}
+use native.Mathlib.Numerals.{add-one}
+use lib.ListN.{length, drop, getD, drop-of-length-le}
+use lib.Seq.{drop-cons}
+use Rattle.line.specs.declared.Line.{Line}
+use Rattle.line.specs.Line.{decimal, digit}
+use Rattle.line.specs.Pushing.{pushed, written}
+use Rattle.line.proofs.Digits.{decimal-one, decimal-step}
+
+pub written-append : (xs ys : List ℕ) (l : Line) → written (xs ++ ys) l ≡ written ys (written xs l)
+unfolding written
+written-append [] ys l = refl
+written-append (x ∷ xs) ys l = written-append xs ys (pushed x l)
+
+pub written-step : (i : ℕ) (xs : List ℕ) (l : Line) → i < length xs → written (drop i xs) l ≡ written (drop (i + 1) xs) (pushed (getD xs i 0) l)
+unfolding written
+written-step i xs l h = rw (add-one, drop-cons xs i 0)
+
+pub written-end : (i : ℕ) (xs : List ℕ) (l : Line) → length xs ≤ i → written (drop i xs) l ≡ l
+unfolding written
+written-end i xs l h = rw (drop-of-length-le xs h)
+
+-- a number of one digit; and its last digit after all others
+pub written-digit : {r : Line} (l : Line) (n d : ℕ) → n < 10 → r ≡ pushed d l → d ≡ digit n → r ≡ written (decimal n) l
+unfolding written
+written-digit l n d h e f = e ∙ ap (λ (b : ℕ). pushed b l) f ∙ sym (ap (λ (ds : List ℕ). written ds l) (decimal-one n h))
+
+pub written-decimal : {m r : Line} (l : Line) (n tens d : ℕ) → 10 ≤ n → n < 2 ^ 32
+    → m ≡ written (decimal tens) l → r ≡ pushed d m → tens ≡ n / 10 → d ≡ digit (n % 10) → r ≡ written (decimal n) l
+unfolding written
+written-decimal l n tens d h k e f g i =
+    f
+    ∙ ap₂ pushed i (e ∙ ap (λ (t : ℕ). written (decimal t) l) g)
+    ∙ sym (ap (λ (ds : List ℕ). written ds l) (decimal-step n h k) ∙ written-append (decimal (n / 10)) (digit (n % 10) ∷ []) l)

@@ -1,0 +1,40 @@
+//! What the captures print.
+
+use super::bench;
+use crate::generate::captures::{capture, names};
+
+const PRINTED: [(&str, &str); 4] = [
+    (
+        "dead-after-good",
+        "CAM-0412 raster 1 rows 6 faults 0 SHORT\n\
+         CAM-0413 raster 1 rows 0 faults 0 NO SIGNAL\n",
+    ),
+    (
+        "damaged",
+        "CAM-0420 raster 1 rows 3 faults 0 SHORT\n\
+         CAM-0421 raster 1 rows 3 faults 1 FAIL\n\
+         CAM-0422 raster 1 rows 1 faults 1 FAIL\n",
+    ),
+    (
+        "bad-file",
+        "CAM-0430 raster 1 rows 1 faults 0 SHORT\n\
+         bad file 4\n",
+    ),
+    (
+        "full-frame",
+        "CAM-0440 raster 7 rows 1125 faults 0 PASS\n\
+         CAM-0441 raster 7 rows 0 faults 0 NO SIGNAL\n",
+    ),
+];
+
+#[test]
+fn every_capture_prints_its_lines() {
+    assert_eq!(names(), PRINTED.map(|(name, _)| name));
+    for (name, expected) in PRINTED {
+        let file = capture(name).expect("there is such a capture");
+        let mut output = Vec::new();
+        bench(&*file, &mut output).expect("a list takes all that is written");
+        assert_eq!(String::from_utf8(output).as_deref(), Ok(expected), "{name}");
+        assert!(file.len() < 100_000 || name == "full-frame");
+    }
+}

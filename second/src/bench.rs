@@ -4,22 +4,27 @@
 mod capture_tests;
 #[cfg(test)]
 mod coverage;
+pub mod module;
+#[cfg(test)]
+mod module_coverage;
+mod open_rows;
+mod places;
 mod sections;
 #[cfg(test)]
 mod tests;
+#[cfg(test)]
+mod two_sessions;
 
-use crate::raster::TABLE;
 use crate::refusal::Refusal;
-use crate::session::{Report, Session};
+use crate::session::Report;
 use sections::Sections;
 use std::io::{self, BufReader, Read, Write};
 
 /// Reads a bench file from the input and writes its lines; only writing can fail.
 pub fn bench(input: impl Read, mut output: impl Write) -> io::Result<()> {
     let mut sections = Sections::of(BufReader::new(input));
-    let mut desk = Desk::new();
     loop {
-        match desk.job(&mut sections) {
+        match job(&mut sections) {
             Ok(Some(line)) => writeln!(output, "{line}")?,
             // "Empty input prints nothing."
             Ok(None) => return Ok(()),
@@ -28,34 +33,15 @@ pub fn bench(input: impl Read, mut output: impl Write) -> io::Result<()> {
     }
 }
 
-/// What all jobs are done with, one after another.
-struct Desk {
-    session: Session,
-    /// Y and C, long enough for every T.
-    rows: [Vec<u16>; 2],
-}
-
-impl Desk {
-    fn new() -> Self {
-        let totals = TABLE.iter().map(|raster| raster.total as usize);
-        let longest = totals.max().unwrap_or(0);
-        Self {
-            session: Session::default(),
-            rows: [vec![0; longest], vec![0; longest]],
-        }
-    }
-
-    /// "Each: tag, options (raster, wipe), words". The line of the next job, or none where there is no job any more.
-    fn job(&mut self, sections: &mut Sections<impl Read>) -> Result<Option<String>, Refusal> {
-        let Some(tag) = sections.tag()? else {
-            return Ok(None);
-        };
-        self.session.begin(sections.raster()?)?;
-        let [y, c] = &mut self.rows;
-        sections.words(|words| self.session.feed(words, &mut [y, c]))?;
-        let report = self.session.end()?;
-        Ok(Some(line(&tag, &report)))
-    }
+/// "Each: tag, options (raster, wipe), words". The line of the next job, or none where there is no job any more.
+fn job(sections: &mut Sections<impl Read>) -> Result<Option<String>, Refusal> {
+    let Some(tag) = sections.tag()? else {
+        return Ok(None);
+    };
+    let raster = sections.raster()?;
+    let words = sections.words()?;
+    let report = module::report(raster, &words);
+    Ok(Some(line(&tag, &report)))
 }
 
 /// As in "A17 raster 1 rows 0 faults 0 NO SIGNAL".

@@ -7,8 +7,8 @@ use crate::refusal::{refuse, Refusal};
 use crate::words::{all_words, bits_of, bits_of_all, fill, is_word, word_of, words_of, WORD_BITS};
 
 const HISTORY_BITS: usize = WORD_BITS;
-const SYNC_ONES: usize = 20;
-const SYNC_ZEROS: usize = 40;
+pub const SYNC_ONES: usize = 20;
+pub const SYNC_ZEROS: usize = 40;
 pub const SYNC_BITS: usize = SYNC_ONES + SYNC_ZEROS;
 
 /// "s(n) = w(n) xor w(n-1)"

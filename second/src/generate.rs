@@ -1,14 +1,14 @@
 //! Random requests over every function, valid and damaged.
 
-mod bad_jobs;
-mod camera;
+pub mod camera;
 pub mod captures;
 mod codes;
 #[cfg(test)]
 mod coverage;
+pub mod cuts;
 mod faults;
 pub mod files;
-mod good_jobs;
+pub mod frames;
 mod lists;
 mod modules;
 mod packet_requests;
@@ -22,7 +22,7 @@ mod rows;
 mod session_coverage;
 mod session_requests;
 mod sessions;
-mod signals;
+pub mod signals;
 mod streams;
 mod syncs;
 #[cfg(test)]

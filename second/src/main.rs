@@ -7,6 +7,7 @@ mod bench;
 mod build;
 mod cable;
 mod check;
+mod compare;
 mod correct;
 mod crc;
 mod functions;
@@ -25,11 +26,16 @@ mod timing;
 mod vectors;
 mod words;
 
+use generate::{cuts, files, frames};
 use std::env;
 use std::io::{self, stdin, stdout, BufRead, BufWriter, ErrorKind, Write};
 use std::process::ExitCode;
 
-const USAGE: &str = "usage: second answer | requests SEED COUNT | vectors | bench | file SEED | captures | capture NAME";
+const USAGE: &str =
+    "usage: second answer | requests SEED COUNT | vectors | bench | file SEED | kinds COUNT \
+     | frames RASTER COUNT SEED | cuts | cut PLACE | captures | capture NAME \
+     | compare requests SEED COUNT COMMAND.. | compare vectors COMMAND.. | compare files FIRST LAST COMMAND.. \
+     | compare captures COMMAND.. | compare frames COMMAND.. | compare cuts COMMAND..";
 
 /// Why the program ends early.
 enum Failure {
@@ -66,7 +72,14 @@ fn run(arguments: &[&str]) -> Result<(), Failure> {
         ["requests", seed, count] => print_requests(&mut output, decimal(seed)?, decimal(count)?)?,
         ["vectors"] => print_vectors(&mut output)?,
         ["bench"] => bench::bench(stdin().lock(), &mut output)?,
-        ["file", seed] => output.write_all(&generate::files::file(decimal(seed)?))?,
+        ["file", seed] => output.write_all(&files::file(decimal(seed)?).bytes)?,
+        ["kinds", count] => print_kinds(&mut output, decimal(count)?)?,
+        ["frames", raster, count, seed] => {
+            output.write_all(&frames(raster, decimal(count)?, decimal(seed)?)?)?
+        }
+        ["compare", words @ ..] => compare::compare(words, &mut output)?,
+        ["cuts"] => writeln!(output, "{}", cuts::file().len())?,
+        ["cut", place] => output.write_all(&cut(place)?)?,
         ["captures"] => print_captures(&mut output)?,
         ["capture", name] => output.write_all(&capture(name)?)?,
         _ => return Err(Failure::Message(USAGE.to_string())),
@@ -103,6 +116,34 @@ fn print_vectors(output: &mut impl Write) -> io::Result<()> {
         writeln!(output, "{}", requests::format_line(&vector.request))?;
     }
     Ok(())
+}
+
+/// In how many of the files of seeds 1 to the count each kind comes.
+fn print_kinds(output: &mut impl Write, count: u64) -> io::Result<()> {
+    let files: Vec<_> = (1..=count).map(|seed| files::file(seed).kinds).collect();
+    for kind in files::kinds() {
+        let with = files.iter().filter(|kinds| kinds.contains(&kind)).count();
+        writeln!(output, "{with:5} {kind}")?;
+    }
+    Ok(())
+}
+
+fn frames(raster: &str, count: u64, seed: u64) -> Result<Vec<u8>, Failure> {
+    let message = || Failure::Message(format!("there is no raster '{raster}'; {USAGE}"));
+    let code = decimal(raster)?.try_into().map_err(|_| message())?;
+    frames::frames(code, count, seed).map_err(|_| message())
+}
+
+/// The first bytes of the file of cuts.
+fn cut(place: &str) -> Result<Vec<u8>, Failure> {
+    let mut file = cuts::file();
+    let count = decimal(place)?;
+    if count > file.len() as u64 {
+        let message = format!("the file has {} bytes, not {place}; {USAGE}", file.len());
+        return Err(Failure::Message(message));
+    }
+    file.truncate(count as usize);
+    Ok(file)
 }
 
 fn print_captures(output: &mut impl Write) -> io::Result<()> {

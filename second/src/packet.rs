@@ -8,7 +8,7 @@ pub const MARKER: [u16; 3] = [0x000, 0x3ff, 0x3ff];
 const DID: usize = 3;
 const SDID: usize = 4;
 const DC: usize = 5;
-const USER: usize = 6;
+pub const USER: usize = 6;
 /// Marker, DID, SDID, DC and checksum.
 const BESIDE_USER: usize = 7;
 

@@ -32,7 +32,7 @@ own code ws =
       session = closed;
     }
 
-total-of-meant : (code : ℕ) → totalOf (meant code) ≡ totalOf code
+pub total-of-meant : (code : ℕ) → totalOf (meant code) ≡ totalOf code
 total-of-meant zero = ap (λ l. l .raster .layout .total) (sym lookedUp-zero)
 total-of-meant (suc n) = refl
 

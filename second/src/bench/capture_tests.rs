@@ -1,7 +1,8 @@
-//! What the captures print.
+//! What the captures and the frames print.
 
 use super::bench;
 use crate::generate::captures::{capture, names};
+use crate::generate::frames::frames;
 
 const PRINTED: [(&str, &str); 4] = [
     (
@@ -27,14 +28,31 @@ const PRINTED: [(&str, &str); 4] = [
     ),
 ];
 
+fn printed(file: &[u8]) -> String {
+    let mut output = Vec::new();
+    bench(file, &mut output).expect("a list takes all that is written");
+    String::from_utf8(output).expect("lines are ASCII")
+}
+
 #[test]
 fn every_capture_prints_its_lines() {
     assert_eq!(names(), PRINTED.map(|(name, _)| name));
     for (name, expected) in PRINTED {
         let file = capture(name).expect("there is such a capture");
-        let mut output = Vec::new();
-        bench(&*file, &mut output).expect("a list takes all that is written");
-        assert_eq!(String::from_utf8(output).as_deref(), Ok(expected), "{name}");
+        assert_eq!(printed(&file), expected, "{name}");
         assert!(file.len() < 100_000 || name == "full-frame");
     }
+}
+
+#[test]
+fn frames_pass() {
+    for (code, seed, line) in [
+        (0, 1, " raster 7 rows 1125 faults 0 PASS\n"),
+        (1, 2, " raster 1 rows 750 faults 0 PASS\n"),
+    ] {
+        let file = frames(code, 1, seed).expect("there is such a raster");
+        let printed = printed(&file);
+        assert!(printed.ends_with(line), "{printed}");
+    }
+    assert!(frames(12, 1, 1).is_err());
 }

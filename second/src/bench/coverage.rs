@@ -2,21 +2,25 @@
 
 use super::bench;
 use super::sections::Sections;
-use crate::generate::files::file;
-use crate::refusal::{refuse, Refusal};
-use crate::words::all_words;
+use crate::generate::files::{file, kinds, File};
+use crate::raster::Raster;
+use crate::refusal::Refusal;
 use std::collections::BTreeSet;
 use std::sync::OnceLock;
 
-fn files() -> &'static [Vec<u8>] {
-    static FILES: OnceLock<Vec<Vec<u8>>> = OnceLock::new();
-    FILES.get_or_init(|| (1..=200).map(file).collect())
+const SEEDS: u64 = 600;
+/// A file of so many bytes is big.
+const BIG: usize = 300_000;
+
+fn files() -> &'static [File] {
+    static FILES: OnceLock<Vec<File>> = OnceLock::new();
+    FILES.get_or_init(|| (1..=SEEDS).map(file).collect())
 }
 
 /// What is printed for each file.
 fn outputs() -> &'static [String] {
     static OUTPUTS: OnceLock<Vec<String>> = OnceLock::new();
-    OUTPUTS.get_or_init(|| files().iter().map(|file| output(file)).collect())
+    OUTPUTS.get_or_init(|| files().iter().map(|file| output(&file.bytes)).collect())
 }
 
 fn output(file: &[u8]) -> String {
@@ -25,43 +29,64 @@ fn output(file: &[u8]) -> String {
     String::from_utf8(output).expect("lines are ASCII")
 }
 
-/// Whether there was a job, or in which section it is refused.
-fn read_job(sections: &mut Sections<&[u8]>) -> Result<bool, (&'static str, u32)> {
+/// Where and with which number a file is refused.
+type Refused = (&'static str, u32);
+/// A job's raster and words.
+type Job = (Raster, Vec<u16>);
+
+/// A job if there is one, or in which section it is refused.
+fn read_job(sections: &mut Sections<&[u8]>) -> Result<Option<Job>, Refused> {
     let at = |section| move |refusal: Refusal| (section, refusal.number());
     if sections.tag().map_err(at("tag"))?.is_none() {
-        return Ok(false);
+        return Ok(None);
     }
-    sections.raster().map_err(at("options"))?;
-    let take = |words: &[u16]| refuse(&[(Refusal::Word, !all_words(words))]);
-    sections.words(take).map_err(at("words"))?;
-    Ok(true)
+    let raster = sections.raster().map_err(at("options"))?;
+    let words = sections.words().map_err(at("words"))?;
+    Ok(Some((raster, words)))
 }
 
-/// How many jobs a file has before its end or its refusal, and the section and number of that.
-fn read_file(file: &[u8]) -> (usize, Option<(&'static str, u32)>) {
+/// The jobs of a file before its end or its refusal, and the section and number of that.
+fn read_file(file: &[u8]) -> (Vec<Job>, Option<Refused>) {
     let mut sections = Sections::of(file);
-    let mut jobs = 0;
+    let mut jobs = Vec::new();
     loop {
         match read_job(&mut sections) {
-            Ok(true) => jobs += 1,
-            Ok(false) => return (jobs, None),
+            Ok(Some(job)) => jobs.push(job),
+            Ok(None) => return (jobs, None),
             Err(refused) => return (jobs, Some(refused)),
         }
     }
 }
 
+/// The jobs of small files.
+pub fn small_jobs() -> impl Iterator<Item = Job> {
+    let small = files().iter().filter(|file| file.bytes.len() < BIG);
+    small.flat_map(|file| read_file(&file.bytes).0)
+}
+
 #[test]
 fn the_same_seed_gives_the_same_file() {
     for (seed, made) in (1..).zip(&files()[..20]) {
-        assert!(file(seed) == *made);
+        assert!(file(seed).bytes == made.bytes);
     }
-    assert!(files()[0] != files()[1]);
+    assert!(files()[0].bytes != files()[1].bytes);
 }
 
 #[test]
 fn most_files_are_small() {
-    let big = files().iter().filter(|file| file.len() > 300_000);
-    assert!((1..8).contains(&big.count()));
+    let mut sizes: Vec<usize> = files().iter().map(|file| file.bytes.len()).collect();
+    sizes.sort_unstable();
+    assert!(sizes[sizes.len() / 2] < 30_000);
+    let big = sizes.iter().filter(|&&size| size >= BIG);
+    assert!((1..=10).contains(&big.count()));
+}
+
+#[test]
+fn every_kind_comes() {
+    for kind in kinds() {
+        let mut files = files().iter();
+        assert!(files.any(|file| file.kinds.contains(&kind)), "{kind}");
+    }
 }
 
 #[test]
@@ -71,14 +96,16 @@ fn every_verdict_and_every_raster_comes() {
         assert!(lines().any(|line| line.ends_with(verdict)), "{verdict}");
     }
     for raster in 1..=11 {
-        let raster = format!(" raster {raster} ");
-        assert!(lines().any(|line| line.contains(&raster)), "{raster}");
+        let counted = format!(" raster {raster} rows ");
+        let counted = lines().filter(|line| line.contains(&counted));
+        assert!(counted.count() > 9, "{raster}");
     }
 }
 
 #[test]
 fn every_section_is_refused_with_each_of_its_numbers() {
-    let read: Vec<_> = files().iter().map(|file| read_file(file)).collect();
+    let read = files().iter().map(|file| read_file(&file.bytes));
+    let read: Vec<_> = read.map(|(jobs, refused)| (jobs.len(), refused)).collect();
     let refused: BTreeSet<_> = read.iter().filter_map(|(_, refused)| *refused).collect();
     let all = [
         ("options", 4),
@@ -99,8 +126,8 @@ fn every_section_is_refused_with_each_of_its_numbers() {
 #[test]
 fn every_file_prints_a_line_per_job_and_its_refusal() {
     for (file, output) in files().iter().zip(outputs()) {
-        let (jobs, refused) = read_file(file);
-        let mut lines = output.lines().skip(jobs);
+        let (jobs, refused) = read_file(&file.bytes);
+        let mut lines = output.lines().skip(jobs.len());
         let expected = refused.map(|(_, number)| format!("bad file {number}"));
         assert_eq!(lines.next(), expected.as_deref());
         assert_eq!(lines.next(), None);

@@ -1,14 +1,15 @@
 //! The sections of a bench file, read as they come: "every section after its count, 32 bits little-endian".
 //! "It reports the fault met first in reading; the order above decides only within one section or one word."
 
-use crate::raster::raster_of;
+use crate::raster::{raster_of, Raster};
 use crate::refusal::{refuse, Refusal};
+use crate::words::all_words;
 use std::io::{ErrorKind, Read};
 
 const LONGEST_TAG: u32 = 32;
 const WORD_BYTES: usize = 2;
 
-/// So many words are read and handed on at once, whatever their count announces.
+/// So many words are read at once.
 pub const PART: usize = 2048;
 
 pub struct Sections<Input>(Input);
@@ -32,7 +33,7 @@ impl<Input: Read> Sections<Input> {
     }
 
     /// The raster that the options choose. Wiping belongs to correction, so a verdict does not depend on it.
-    pub fn raster(&mut self) -> Result<u32, Refusal> {
+    pub fn raster(&mut self) -> Result<Raster, Refusal> {
         // "options not two bytes"
         let count = self.count()?;
         refuse(&[(Refusal::File, count != 2)])?;
@@ -40,32 +41,32 @@ impl<Input: Read> Sections<Input> {
         self.exactly(&mut options)?;
         let [raster, wipe] = options.map(u32::from);
         // "Order where several apply: [..] 9, 4": "wipe not 0 or 1" before "raster not 0..11".
-        refuse(&[
-            (Refusal::File, wipe > 1),
-            (Refusal::Raster, raster_of(raster).is_err()),
-        ])?;
-        Ok(raster)
+        refuse(&[(Refusal::File, wipe > 1)])?;
+        raster_of(raster)
     }
 
-    /// "words 16 bits little-endian": handed on in parts to what takes or refuses them.
-    pub fn words(
-        &mut self,
-        mut take: impl FnMut(&[u16]) -> Result<(), Refusal>,
-    ) -> Result<(), Refusal> {
-        let mut left = self.count()? as usize;
-        let mut bytes = [0; PART * WORD_BYTES];
-        while left > 0 {
-            let asked = left.min(PART);
-            let come = self.fill(&mut bytes[..asked * WORD_BYTES]);
+    /// "words 16 bits little-endian", in parts, whatever their count announces.
+    pub fn words(&mut self) -> Result<Vec<u16>, Refusal> {
+        let count = self.count()? as usize;
+        let mut words = Vec::new();
+        while words.len() < count {
+            let asked = PART.min(count - words.len());
+            let part = self.whole_words(asked);
             // The words that came whole were met before the end of the input was.
-            let (words, _) = bytes[..come].as_chunks();
-            let words: Vec<u16> = words.iter().copied().map(u16::from_le_bytes).collect();
-            take(&words)?;
+            refuse(&[(Refusal::Word, !all_words(&part))])?;
             // "or cut short", be it in the middle of a word
-            refuse(&[(Refusal::File, words.len() < asked)])?;
-            left -= asked;
+            refuse(&[(Refusal::File, part.len() < asked)])?;
+            words.extend(part);
         }
-        Ok(())
+        Ok(words)
+    }
+
+    /// So many words, or as many as come whole.
+    fn whole_words(&mut self, count: usize) -> Vec<u16> {
+        let mut bytes = vec![0; count * WORD_BYTES];
+        let come = self.fill(&mut bytes);
+        let (words, _) = bytes[..come].as_chunks();
+        words.iter().copied().map(u16::from_le_bytes).collect()
     }
 
     /// The count of a section that must come.

@@ -3,6 +3,7 @@
 use super::bench;
 use super::sections::PART;
 use crate::generate::captures::capture;
+use crate::generate::cuts;
 use crate::job::Job;
 use std::io::{repeat, Error, ErrorKind, Read, Result};
 
@@ -191,15 +192,17 @@ fn of_two_sections_the_first_decides() {
 /// 9, or at a job's end nothing more.
 #[test]
 fn a_file_cut_at_any_byte() {
-    let first = job(&[0x155, 0x2aa]).bytes();
-    let second = Job::new("B02", 7, true, vec![0x155; 3]).bytes();
-    let file = [&first[..], &second].concat();
-    let line = "B02 raster 7 rows 0 faults 0 NO SIGNAL\n";
+    let file = cuts::file();
+    let lines = [
+        "CUT-1 raster 1 rows 0 faults 0 SHORT\n",
+        "CUT-2 raster 7 rows 0 faults 1 FAIL\n",
+    ];
+    let second = file.windows(5).position(|bytes| bytes == b"CUT-2");
+    let jobs = [second.expect("its tag is there") - 4, file.len()];
     for end in 0..=file.len() {
-        let lines = [(first.len(), A17), (file.len(), line)];
-        let whole = lines.iter().filter(|(job, _)| *job <= end);
-        let mut expected: String = whole.map(|(_, line)| *line).collect();
-        if ![0, first.len(), file.len()].contains(&end) {
+        let whole = jobs.iter().filter(|&&job| job <= end).count();
+        let mut expected = lines[..whole].concat();
+        if end != 0 && !jobs.contains(&end) {
             expected += "bad file 9\n";
         }
         assert_eq!(printed(&file[..end]), expected, "cut at {end}");

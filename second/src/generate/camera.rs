@@ -1,5 +1,6 @@
 //! A camera that sends good rows, one after another, and a recording of what comes over its cable.
 
+use super::rows::Head;
 use super::signals::{row_bits, whole_words};
 use crate::build::build;
 use crate::cable::scramble;
@@ -12,7 +13,8 @@ pub struct Camera {
     raster: Raster,
     /// The line of the next row.
     pub line: u32,
-    carry: Option<Carry>,
+    /// What the row before has left.
+    pub carry: Option<Carry>,
 }
 
 impl Camera {
@@ -25,8 +27,14 @@ impl Camera {
         }
     }
 
-    /// The bits of the next row, built of A lawful active words and of packets a channel.
+    /// The bits of the next row.
     pub fn next_row(&mut self, active: Row, packets: Row) -> Vec<bool> {
+        let words = self.next_words(active, packets);
+        row_bits(&words, 0..words[0].len())
+    }
+
+    /// The words of the next row, built of A active words and of packets a channel.
+    pub fn next_words(&mut self, active: Row, packets: Row) -> [Vec<u16>; 2] {
         let total = self.raster.total as usize;
         let mut words = [vec![0; total], vec![0; total]];
         let buffers = words.each_mut().map(Vec::as_mut_slice);
@@ -34,7 +42,16 @@ impl Camera {
         let built = build(code, self.line, self.carry, active, packets, buffers);
         self.carry = Some(built.expect("the row can be built"));
         self.line = self.line % self.raster.rows + 1;
-        row_bits(&words, 0..total)
+        words
+    }
+
+    /// What the next row is built for.
+    pub fn head(&self) -> Head {
+        Head {
+            code: self.raster.code,
+            line: self.line,
+            carry: self.carry,
+        }
     }
 }
 

@@ -1,75 +1,184 @@
-//! Bench files from a seed: jobs that follow one another, mostly with a bad one among them.
+//! Bench files from a seed: jobs that follow one another, good captures and damaged ones, mostly with a bad job after them.
 
-use super::bad_jobs::BadJob;
-use super::good_jobs;
+mod bad_job;
+mod bad_jobs;
+mod bit_faults;
+mod cable_faults;
+mod code_faults;
+mod content_faults;
+mod distance_faults;
+mod faults;
+mod modules;
+mod order_faults;
+mod rowless;
+pub mod sender;
+mod signal;
+
+use super::rows::Row;
 use crate::job::Job;
 use crate::random::Random;
+use modules::Module;
+
+/// What can be among a file, by name.
+pub type Kind = &'static str;
+
+/// A way to spoil something, with its name.
+type Fault<Spoilt> = (Kind, fn(&mut Random, &mut Spoilt));
+/// A way to spoil rows that follow one another, at a place.
+type OrderFault = (Kind, fn(&mut Random, &mut Vec<Row>, usize));
 
 /// No job is added to a file that has so many bytes.
-const ENOUGH: usize = 150_000;
+const ENOUGH: usize = 60_000;
 
-/// The same seed, the same bytes.
-pub fn file(seed: u64) -> Vec<u8> {
+/// Jobs without rows have at most so many words.
+const SHORT: usize = 500;
+const LONG: usize = 10_000;
+
+pub struct File {
+    pub bytes: Vec<u8>,
+    /// What was put in it, as far as it is read.
+    pub kinds: Vec<Kind>,
+}
+
+const IN_TWO_JOBS: Kind = "one capture in two jobs";
+
+/// All kinds that come.
+pub fn kinds() -> Vec<Kind> {
+    let of_bad_jobs = bad_jobs::all().into_iter().map(|(kind, _)| kind);
+    let of_modules = modules::kinds().into_iter().chain([IN_TWO_JOBS]);
+    of_modules.chain(of_bad_jobs).collect()
+}
+
+/// What is put in a file.
+struct Notes {
+    kinds: Vec<Kind>,
+    /// Whose turn it is.
+    turn: u64,
+}
+
+/// The turns of a file are so far from one another.
+const STRIDE: u64 = 23;
+
+impl Notes {
+    fn note(&mut self, kind: Kind) {
+        self.kinds.push(kind);
+    }
+
+    /// What is chosen in turn, by the seed, so that all come.
+    fn in_turn<T: Copy>(&mut self, table: &[(Kind, T)]) -> T {
+        let place = (self.turn % table.len() as u64) as usize;
+        self.turn = self.turn.wrapping_add(STRIDE);
+        self.chosen(table[place])
+    }
+
+    fn any<T: Copy>(&mut self, random: &mut Random, table: &[(Kind, T)]) -> T {
+        self.chosen(random.pick(table))
+    }
+
+    fn chosen<T>(&mut self, (kind, chosen): (Kind, T)) -> T {
+        self.note(kind);
+        chosen
+    }
+}
+
+/// The same seed, the same file.
+pub fn file(seed: u64) -> File {
     let random = &mut Random::new(seed);
-    let jobs = jobs(random);
-    let mut parts: Vec<Vec<u8>> = jobs.iter().map(Job::bytes).collect();
-    if !jobs.is_empty() && !random.one_in(4) {
-        // Often the last; of the jobs after it nothing is read.
-        let any = random.place(jobs.len());
-        let place = random.pick(&[any, jobs.len() - 1]);
-        let (bytes, is_cut) = bad_bytes(random, jobs[place].clone());
-        parts[place] = bytes;
-        if is_cut {
-            parts.truncate(place + 1);
+    let mut notes = Notes {
+        kinds: Vec::new(),
+        turn: seed,
+    };
+    let jobs = jobs(random, &mut notes);
+    let mut bytes: Vec<u8> = jobs.iter().flat_map(Job::bytes).collect();
+    if !random.one_in(4) {
+        let most = random.pick(&[SHORT, SHORT, SHORT, LONG]);
+        let job = rowless_job(random, most);
+        notes.turn = seed;
+        let bad = bad_jobs::bad_job(random, job, &mut notes);
+        bytes.extend(bad.bytes());
+        // Of the jobs after it nothing is read.
+        if !bad.is_cut() && random.bit() {
+            bytes.extend(rowless_job(random, SHORT).bytes());
         }
     }
-    parts.concat()
-}
-
-/// Tens of short ones or a few; seldom one that sends a whole frame is among them.
-fn jobs(random: &mut Random) -> Vec<Job> {
-    let mut jobs = if random.one_in(6) {
-        let count = random.below(40);
-        (0..count).map(|_| good_jobs::short_job(random)).collect()
-    } else {
-        few_jobs(random)
-    };
-    if random.one_in(50) {
-        // Often the first, for what comes after a bad job is not read.
-        let any = random.place(jobs.len() + 1);
-        let place = random.pick(&[0, any]);
-        jobs.insert(place, good_jobs::frame(random));
+    File {
+        bytes,
+        kinds: notes.kinds,
     }
-    jobs
 }
 
-fn few_jobs(random: &mut Random) -> Vec<Job> {
-    let count = random.pick(&[0, 1, 1, 1, 2, 2, 2, 3, 3, 4, 5, 6, 10]);
+/// None, a few, now and then tens of short ones, or seldom one of a frame.
+fn jobs(random: &mut Random, notes: &mut Notes) -> Vec<Job> {
+    if random.one_in(120) {
+        let frame = modules::frame(random, notes);
+        return vec![job_of(random, frame)];
+    }
+    if random.one_in(15) {
+        let count = random.below(40);
+        return (0..count).map(|_| rowless_job(random, SHORT)).collect();
+    }
+    let count = random.pick(&[0, 1, 1, 1, 2, 2, 2, 3, 5]);
     let mut jobs = Vec::new();
     let mut bytes = 0;
     while jobs.len() < count && bytes < ENOUGH {
-        let job = good_jobs::job(random);
-        bytes += job.bytes().len();
-        jobs.push(job);
+        let module = modules::any(random, notes);
+        bytes += 2 * module.words.len();
+        for module in in_two(random, module, notes) {
+            jobs.push(job_of(random, module));
+        }
     }
     jobs
 }
 
-/// A job with a section that is wrong, at times in two ways, or cut, or both, and whether it is cut.
-fn bad_bytes(random: &mut Random, job: Job) -> (Vec<u8>, bool) {
-    let mut bad = BadJob::of(job);
-    let (section, other) = (random.place(3), random.place(3));
-    let is_cut = random.one_in(3);
-    if !is_cut || random.bit() {
-        bad.spoil(random, section);
+/// Seldom the words of a module come in two jobs, of which the second knows nothing of the first.
+fn in_two(random: &mut Random, mut module: Module, notes: &mut Notes) -> Vec<Module> {
+    if module.words.len() < 2 || !random.one_in(10) {
+        return vec![module];
     }
-    if random.one_in(3) {
-        let second = random.pick(&[section, other]);
-        bad.spoil(random, second);
-    }
-    let mut bytes = bad.bytes();
-    if is_cut {
-        bytes.truncate(bad.cut(random, section));
-    }
-    (bytes, is_cut)
+    notes.note(IN_TWO_JOBS);
+    let last = module.words.len() - 1;
+    // Also in the first EAV, or in the last.
+    let places = [
+        random.place(last),
+        random.place(12),
+        last.saturating_sub(random.place(30)),
+    ];
+    let place = random.pick(&places);
+    let second = Module {
+        code: module.code,
+        words: module.words.split_off(place.min(last)),
+    };
+    vec![module, second]
+}
+
+/// A job without rows, of at most so many words.
+fn rowless_job(random: &mut Random, most: usize) -> Job {
+    let (_, mut module) = rowless::any(random);
+    module.words.truncate(most);
+    job_of(random, module)
+}
+
+fn job_of(random: &mut Random, module: Module) -> Job {
+    let wipe = random.bit();
+    Job::new(&tag(random), module.code as u8, wipe, module.words)
+}
+
+/// "1 to 32 bytes", "printable ASCII without spaces"
+pub fn tag(random: &mut Random) -> String {
+    let any = random.between(1, 32);
+    let count = random.pick(&[1, 2, 8, 31, 32, any, any]);
+    let edges = random.one_in(4);
+    (0..count)
+        .map(|_| match edges {
+            true => random.pick(&['!', '~']),
+            false => char::from(random.short(0x21, 0x7e) as u8),
+        })
+        .collect()
+}
+
+/// The place of one of so many rows: the first, the second, the last, or any.
+fn aim(random: &mut Random, count: usize) -> usize {
+    let any = random.place(count);
+    let second = 1.min(count - 1);
+    random.pick(&[0, second, second, count - 1, any])
 }

@@ -68,6 +68,13 @@ pub fn line_of(random: &mut Random, code: u32) -> u32 {
     }
 }
 
+/// Any line of the raster, half of the time one at an edge.
+pub fn any_line_of(random: &mut Random, code: u32) -> u32 {
+    let edge = line_of(random, code);
+    let any = random.between(1, rows(code));
+    random.pick(&[edge, any])
+}
+
 /// A number that is no line of the raster.
 pub fn bad_line(random: &mut Random, code: u32) -> u32 {
     match random.below(3) {

@@ -30,6 +30,7 @@ impl Head {
     }
 }
 
+#[derive(Clone)]
 pub struct Row {
     pub head: Head,
     pub words: [Vec<u16>; 2],
@@ -118,7 +119,7 @@ fn lay_in_a_region(random: &mut Random, layout: &Layout, words: &mut [u16], want
 }
 
 /// The CRC words that the carry asks for; 200 200 where there is none.
-fn make_crc_right(row: &mut Row) {
+pub fn make_crc_right(row: &mut Row) {
     for (channel, words) in row.words.iter_mut().enumerate() {
         let carry = row.head.carry;
         let crc = carry.map_or([0x200; 2], |carry| right_crc(carry[channel], words));

@@ -16,9 +16,8 @@ pub fn pair_bits([y, c]: [u16; 2]) -> Vec<bool> {
 
 pub fn row_bits(row: &[Vec<u16>; 2], places: Range<usize>) -> Vec<bool> {
     let [y, c] = row;
-    places
-        .flat_map(|place| pair_bits([y[place], c[place]]))
-        .collect()
+    let words: Vec<u16> = places.flat_map(|place| [c[place], y[place]]).collect();
+    bits_of_all(&words)
 }
 
 /// A sync and its XYZ pair.

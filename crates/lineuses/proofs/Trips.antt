@@ -1,0 +1,66 @@
+-- There and back: the words that were scrambled are unscrambled again.
+use mathlib.Core.Path.{_≡_, refl, sym, ap, _∙_}
+use mathlib.Core.List.{List, _++_}
+use Prim.Native.Nat.{ℕ, zero, suc, _≤_}
+use lib.ListN.{length, drop}
+use lib.Seq.{take-at}
+use borrow.Author.Tests.{le-leb}
+use Rattle.cable.specs.declared.Coded.{Coded}
+use Rattle.cable.specs.Words.{codeRefusal, coded, filled, scrambleNext, scrambleWords, unscrambleNext, unscrambleWords}
+use Rattle.cable.proofs.Words.{code-refusal-none, filled-refused, length-scramble, length-unscramble, next-of-scramble, scramble-range, unscramble-of-scramble}
+use Rattle.parts.specs.Parts.{part}
+
+pub coded-number : (n next : ℕ) → coded n next .refusal ≡ n
+coded-number zero next = refl
+coded-number (suc n) next = refl
+
+filled-kept : (n next : ℕ) (result out : List ℕ) {r : Coded} {after : List ℕ}
+    → r ≡ coded n next → after ≡ filled n result out → (r .refusal ≡ 0 → ⊥) → after ≡ out
+filled-kept n next result out e f bad = f ∙ sym (filled-refused n result out (λ z. bad (ap (λ r. r .refusal) e ∙ coded-number n next ∙ z)))
+
+module _ (h : ℕ) (ws out : List ℕ) {r : Coded} {after : List ℕ} where
+  pub scramble-kept : r ≡ coded (codeRefusal h ws (length out)) (scrambleNext h ws)
+      → after ≡ filled (codeRefusal h ws (length out)) (scrambleWords h ws) out → (r .refusal ≡ 0 → ⊥) → after ≡ out
+  scramble-kept = filled-kept (codeRefusal h ws (length out)) (scrambleNext h ws) (scrambleWords h ws) out
+
+  pub unscramble-kept : r ≡ coded (codeRefusal h ws (length out)) (unscrambleNext h ws)
+      → after ≡ filled (codeRefusal h ws (length out)) (unscrambleWords h ws) out → (r .refusal ≡ 0 → ⊥) → after ≡ out
+  unscramble-kept = filled-kept (codeRefusal h ws (length out)) (unscrambleNext h ws) (unscrambleWords h ws) out
+
+pub unscramble-number : (h : ℕ) (ws out : List ℕ) {r : Coded} → r ≡ coded (codeRefusal h ws (length out)) (unscrambleNext h ws)
+    → r .refusal ≡ codeRefusal h ws (length out)
+unscramble-number h ws out e = ap (λ r. r .refusal) e ∙ coded-number (codeRefusal h ws (length out)) (unscrambleNext h ws)
+
+-- the output's first words are those that were unscrambled
+pub unscramble-words : (h : ℕ) (ws out sent : List ℕ) {after : List ℕ} → codeRefusal h ws (length out) ≡ 0
+    → after ≡ filled (codeRefusal h ws (length out)) (unscrambleWords h ws) out → sent ≡ part 0 (length ws) after → sent ≡ unscrambleWords h ws
+unscramble-words h ws out sent ok f s =
+    let whole = f ∙ ap (λ (n : ℕ). filled n (unscrambleWords h ws) out) ok in
+    s ∙ ap (part 0 (length ws)) whole ∙ take-at (unscrambleWords h ws) _ (length ws) (length-unscramble h ws)
+
+-- the cable's first words are those that were scrambled
+sent-words : (h : ℕ) (ws cable : List ℕ) → codeRefusal h ws (length cable) ≡ 0
+    → part 0 (length ws) (filled (codeRefusal h ws (length cable)) (scrambleWords h ws) cable) ≡ scrambleWords h ws
+sent-words h ws cable ok = rw ok (take-at (scrambleWords h ws) _ (length ws) (length-scramble h ws))
+
+sent-refusal : (h : ℕ) (ws : List ℕ) (room other : ℕ) → codeRefusal h ws room ≡ 0 → length ws ≤ other → codeRefusal h (scrambleWords h ws) other ≡ 0
+unfolding codeRefusal
+sent-refusal h ws room other ok fits =
+    let none = code-refusal-none h ws room ok in
+    rw (le-leb h 0x3ff (none .0), scramble-range ws h, length-scramble h ws, le-leb (length ws) other fits)
+
+pub there-and-back : (h : ℕ) (ws cable out sent : List ℕ) {cable-after out-after : List ℕ} {there back : Coded}
+    → there ≡ coded (codeRefusal h ws (length cable)) (scrambleNext h ws)
+    → cable-after ≡ filled (codeRefusal h ws (length cable)) (scrambleWords h ws) cable
+    → sent ≡ part 0 (length ws) cable-after
+    → back ≡ coded (codeRefusal h sent (length out)) (unscrambleNext h sent)
+    → out-after ≡ filled (codeRefusal h sent (length out)) (unscrambleWords h sent) out
+    → there .refusal ≡ 0
+    → length ws ≤ length out
+    → (back ≡ there) × (out-after ≡ ws ++ drop (length ws) out)
+there-and-back h ws cable out sent t u s b o z fits =
+    let ok : codeRefusal h ws (length cable) ≡ 0 = sym (coded-number _ (scrambleNext h ws)) ∙ sym (ap (λ r. r .refusal) t) ∙ z in
+    let same : sent ≡ scrambleWords h ws = s ∙ ap (part 0 (length ws)) u ∙ sent-words h ws cable ok in
+    let taken = sent-refusal h ws (length cable) (length out) ok fits in
+    let again = unscramble-of-scramble ws h (code-refusal-none h ws (length cable) ok .1) in
+    (b ∙ rw (same, taken, ← next-of-scramble h ws) (sym (t ∙ rw ok)), o ∙ rw (same, taken, again))

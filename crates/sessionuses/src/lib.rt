@@ -1,0 +1,4 @@
+// What clients of a module session can conclude from its contracts alone.
+pub mod modules;
+pub mod refusals;
+pub mod rows;

@@ -1,0 +1,150 @@
+//! Bench files, each put to a run of the command; the first on which it prints something else is shrunk.
+
+use super::budget::Budget;
+use super::command::Command;
+use super::file_shrinking::Shrinking;
+use super::progress::Progress;
+use crate::bench::bench;
+use crate::Failure;
+use std::fs;
+use std::io::{Read, Write};
+use std::thread::{self, ScopedJoinHandle};
+
+/// Of a longer file the report has only the size; the bytes go to a file of this name.
+const MOST_SHOWN: usize = 4096;
+const WRITTEN: &str = "difference.bench";
+
+/// So many bytes more than this program prints are read of what the command prints.
+const MORE: usize = 256;
+
+/// So many files are put to the command at once.
+const AT_ONCE: usize = 2;
+
+/// How many files give the same, which are all of them. A file has the name that `second` makes it by.
+pub fn compare(
+    mut files: impl Iterator<Item = (String, Vec<u8>)>,
+    command: &Command,
+) -> Result<usize, Failure> {
+    let mut progress = Progress::new();
+    let mut alike = 0;
+    loop {
+        let some: Vec<_> = files.by_ref().take(AT_ONCE).collect();
+        if some.is_empty() {
+            return Ok(alike);
+        }
+        let outputs = outputs_of_each(&some, command);
+        for ((name, bytes), outputs) in some.into_iter().zip(outputs) {
+            let outputs = outputs?;
+            if outputs.differ() {
+                return Err(Failure::Message(report(&name, bytes, outputs, command)));
+            }
+            alike += 1;
+            progress.tell(|| format!("{alike} files alike, the last `second {name}`"));
+        }
+    }
+}
+
+/// What is printed for some files, all at once.
+fn outputs_of_each<'a>(
+    files: &'a [(String, Vec<u8>)],
+    command: &'a Command,
+) -> Vec<Result<Outputs, Failure>> {
+    thread::scope(|scope| {
+        let start =
+            |(_, bytes): &'a (String, Vec<u8>)| scope.spawn(move || Outputs::of(bytes, command));
+        let runs: Vec<_> = files.iter().map(start).collect();
+        let ended = |run: ScopedJoinHandle<'_, _>| run.join().expect("a run does not panic");
+        runs.into_iter().map(ended).collect()
+    })
+}
+
+/// What is printed for a file.
+struct Outputs {
+    theirs: Vec<u8>,
+    own: Vec<u8>,
+}
+
+impl Outputs {
+    fn of(bytes: &[u8], command: &Command) -> Result<Self, Failure> {
+        let (mut outputs, status) = command.run(
+            |stdin| stdin.write_all(bytes),
+            |stdout| {
+                // Worked out while the command works.
+                let own = own_lines(bytes);
+                let mut theirs = Vec::new();
+                let most = own.len() + MORE;
+                let read = stdout.take(most as u64).read_to_end(&mut theirs);
+                read.map_err(|error| Failure::Message(error.to_string()))?;
+                Ok(Self { theirs, own })
+            },
+        )?;
+        // The paper says nothing of a status after `bad file`; but a signal is no way to end.
+        if status.code().is_none() {
+            outputs.theirs.extend(format!("({status})").bytes());
+        }
+        Ok(outputs)
+    }
+
+    fn differ(&self) -> bool {
+        self.theirs != self.own
+    }
+}
+
+/// What this program's `bench` prints.
+pub fn own_lines(bytes: &[u8]) -> Vec<u8> {
+    let mut lines = Vec::new();
+    bench(bytes, &mut lines).expect("a list takes all that is written");
+    lines
+}
+
+fn report(name: &str, bytes: Vec<u8>, outputs: Outputs, command: &Command) -> String {
+    let size = bytes.len();
+    let mut smallest = (bytes, outputs);
+    let note = shrink(&mut smallest, command);
+    let (bytes, Outputs { theirs, own }) = smallest;
+    format!(
+        "they differ on `second {name}` of {size} bytes\n{note}\nfile of {} bytes: {}\ncommand prints{}\nsecond prints{}",
+        bytes.len(),
+        shown_file(&bytes),
+        shown_lines(&theirs),
+        shown_lines(&own),
+    )
+}
+
+/// Answers what is to be said of it.
+fn shrink(smallest: &mut (Vec<u8>, Outputs), command: &Command) -> String {
+    let mut budget = Budget::to_shrink();
+    let mut progress = Progress::new();
+    let first = smallest.0.clone();
+    let differs = |bytes: &[u8]| {
+        budget.spend(bytes.len())?;
+        progress.tell(|| format!("shrinking, run {} on {} bytes", budget.runs, bytes.len()));
+        let outputs = Outputs::of(bytes, command)?;
+        let differ = outputs.differ();
+        if differ {
+            *smallest = (bytes.to_vec(), outputs);
+        }
+        Ok(differ)
+    };
+    let ended = Shrinking::of(&first, differs).shrink();
+    budget.note(ended)
+}
+
+/// In hexadecimal, or where it is written to.
+fn shown_file(bytes: &[u8]) -> String {
+    if bytes.len() <= MOST_SHOWN {
+        return bytes.iter().map(|byte| format!("{byte:02x}")).collect();
+    }
+    match fs::write(WRITTEN, bytes) {
+        Ok(()) => format!("written to {WRITTEN}"),
+        Err(error) => format!("cannot be written to {WRITTEN}: {error}"),
+    }
+}
+
+/// Each line with its end, so that a missing one is seen.
+fn shown_lines(output: &[u8]) -> String {
+    let lines = output.split_inclusive(|&byte| byte == b'\n');
+    lines
+        .map(|line| format!("\n  {}", line.escape_ascii()))
+        .collect()
+}

@@ -1,0 +1,141 @@
+//! Smaller numbers for one argument of a request. Places and ranges are of its numbers.
+
+use super::request_parts::{Kind, Piece};
+use crate::arguments::Arguments;
+use crate::requests::format_line;
+use std::ops::Range;
+
+pub type Numbers = Vec<u32>;
+
+/// The places of a session's line and of its carry.
+const LINE: usize = 9;
+const CARRY: Range<usize> = 10..13;
+
+pub fn without(piece: &Piece, range: Range<usize>) -> Numbers {
+    let mut numbers = piece.numbers.clone();
+    numbers.drain(within(piece, range));
+    numbers
+}
+
+/// Runs become one that is as long as they are together, with the words of the first or the last: a row must keep its length.
+pub fn melted(piece: &Piece, range: Range<usize>) -> Vec<Numbers> {
+    let Some(width) = piece.kind.width().filter(|&width| width > 1) else {
+        return Vec::new();
+    };
+    let range = within(piece, range);
+    let runs: Vec<&[u32]> = piece.numbers[range.clone()].chunks(width).collect();
+    let times = runs.iter().map(|run| run[0]).fold(0, u32::saturating_add);
+    let ends = runs.first().into_iter().chain(runs.last());
+    let changed = ends.map(|run| {
+        let mut numbers = piece.numbers.clone();
+        numbers.splice(range.clone(), [&[times], &run[1..]].concat());
+        numbers
+    });
+    changed.collect()
+}
+
+/// The words become 0; how often a run has them stays.
+pub fn cleared(piece: &Piece, range: Range<usize>) -> Numbers {
+    let width = piece.kind.width().unwrap_or(1);
+    let mut numbers = piece.numbers.clone();
+    for run in numbers[within(piece, range)].chunks_mut(width) {
+        let times = usize::from(width > 1);
+        run[times..].fill(0);
+    }
+    numbers
+}
+
+/// No carry; a session that is closed, or just begun, or has no carry.
+pub fn simpler(piece: &Piece) -> Vec<Numbers> {
+    let none = vec![0; piece.numbers.len()];
+    match piece.kind {
+        Kind::Carry => vec![none],
+        Kind::Session => {
+            let mut begun = none.clone();
+            begun[..2].copy_from_slice(&piece.numbers[..2]);
+            let mut without_carry = piece.numbers.clone();
+            without_carry[CARRY].fill(0);
+            let sessions = [none, begun, without_carry].into_iter();
+            sessions.filter(|after| may_be_sent(piece, after)).collect()
+        }
+        _ => Vec::new(),
+    }
+}
+
+/// One number becomes 0, or is less by a half, a quarter .. and one.
+pub fn lessened(piece: &Piece, place: usize) -> Vec<Numbers> {
+    let Some(&number) = piece.numbers.get(place) else {
+        return Vec::new();
+    };
+    let parts = (1..u32::BITS).map(|halvings| number >> halvings);
+    let less = parts.take_while(|&part| part > 0).map(|part| number - part);
+    let changed = std::iter::once(0).chain(less).map(|number| {
+        let mut numbers = piece.numbers.clone();
+        numbers[place] = number;
+        numbers
+    });
+    changed.filter(|after| may_be_sent(piece, after)).collect()
+}
+
+/// The chunk at the end of an argument may be shorter.
+fn within(piece: &Piece, range: Range<usize>) -> Range<usize> {
+    range.start..range.end.min(piece.numbers.len())
+}
+
+/// "A session in range that is handed in is one that a run can reach but for its line, carry and counts": such a one keeps
+/// the numbers before its line, or has none of them yet. "Sessions out of range are any."
+fn may_be_sent(before: &Piece, after: &[u32]) -> bool {
+    let keeps = is_in_range(&before.numbers) && after.starts_with(&before.numbers[..LINE]);
+    let has_just_begun = || after[2..LINE].iter().all(|&number| number == 0);
+    before.kind != Kind::Session || keeps || has_just_begun() || !is_in_range(after)
+}
+
+fn is_in_range(session: &[u32]) -> bool {
+    let arguments = Arguments::parse(&format_line(session));
+    let session = arguments.and_then(|mut arguments| arguments.session());
+    session.is_ok_and(|session| session.in_range())
+}
+
+#[cfg(test)]
+mod tests {
+    use super::*;
+
+    fn piece(kind: Kind, numbers: &[u32]) -> Piece {
+        let numbers = numbers.to_vec();
+        Piece { kind, numbers }
+    }
+
+    #[test]
+    fn runs_keep_their_length_or_their_words() {
+        let runs = piece(Kind::Runs, &[5, 0x40, 1, 0x3ff, 2, 0x200]);
+        assert_eq!(without(&runs, 2..4), [5, 0x40, 2, 0x200]);
+        let words = [0x3ff, 0x200];
+        assert_eq!(melted(&runs, 2..9), words.map(|word| [5, 0x40, 3, word]));
+        assert_eq!(cleared(&runs, 0..4), [5, 0, 1, 0, 2, 0x200]);
+        let twos = piece(Kind::Twos, &[5, 1, 2, 6, 3, 4]);
+        assert_eq!(melted(&twos, 0..6), [[11, 1, 2], [11, 3, 4]]);
+        assert!(melted(&piece(Kind::List, &[1, 2]), 0..2).is_empty());
+        assert_eq!(cleared(&piece(Kind::List, &[1, 2]), 0..1), [0, 2]);
+    }
+
+    #[test]
+    fn a_number_is_less_by_a_half_a_quarter_and_one() {
+        let numbers = lessened(&piece(Kind::Number, &[10]), 0);
+        assert_eq!(numbers, [[0], [5], [8], [9]]);
+        assert_eq!(lessened(&piece(Kind::Number, &[1]), 0), [[0]]);
+    }
+
+    /// Open, of raster 1, with a history; then one that is out of range by its line.
+    #[test]
+    fn sessions_in_range_stay_reachable() {
+        let mut open = [1, 1, 0x155, 9, 0, 3, 1, 0, 0, 700, 1, 5, 6, 7, 8];
+        let history_and_line = |session: &[u32]| {
+            let session = piece(Kind::Session, session);
+            [2, 9].map(|place| lessened(&session, place).len())
+        };
+        assert_eq!(history_and_line(&open), [0, 10]);
+        assert_eq!(simpler(&piece(Kind::Session, &open)).len(), 3);
+        open[9] = 751;
+        assert_eq!(history_and_line(&open), [9, 1]);
+    }
+}

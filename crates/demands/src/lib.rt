@@ -1,2 +1,1 @@
-// What clients can conclude from the libraries' contracts alone.
-pub mod twice;
+// The demands, each a proposition in words of the definitions (specs/), and that they hold (proofs/). There is no code here.

@@ -1,0 +1,8 @@
+-- Demand 3.
+use Rattle.burst.proofs.Flagged.{burst-flagged}
+use Rattle.struck.proofs.Fails.{struck-fails}
+use Rattle.demands.specs.Demands.{DemandThree}
+use Rattle.demands.proofs.RowsStruck.{rows-struck}
+
+pub demand-three : DemandThree
+demand-three = record { burst-flagged = burst-flagged; rows-struck = rows-struck; struck-fails = struck-fails }

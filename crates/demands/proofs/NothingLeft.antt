@@ -1,0 +1,8 @@
+-- A module without words has no signal, whatever was before it.
+use Rattle.module.specs.Runs.{fedAll}
+use Rattle.sessionuses.proofs.Alone.{ended-of-no-words}
+use Rattle.demands.specs.Demands.{NothingLeft}
+
+pub nothing-left : NothingLeft
+unfolding NothingLeft fedAll
+nothing-left code x ok shut = ended-of-no-words code ok (x .session) (shut .0) (shut .1)

@@ -9,12 +9,13 @@ pub mod module;
 mod module_coverage;
 mod open_rows;
 mod places;
-mod sections;
+pub mod sections;
 #[cfg(test)]
 mod tests;
 #[cfg(test)]
 mod two_sessions;
 
+use crate::line;
 use crate::refusal::Refusal;
 use crate::session::Report;
 use sections::Sections;
@@ -25,32 +26,27 @@ pub fn bench(input: impl Read, mut output: impl Write) -> io::Result<()> {
     let mut sections = Sections::of(BufReader::new(input));
     loop {
         match job(&mut sections) {
-            Ok(Some(line)) => writeln!(output, "{line}")?,
+            Ok(Some(line)) => output.write_all(&line)?,
             // "Empty input prints nothing."
             Ok(None) => return Ok(()),
-            Err(refusal) => return writeln!(output, "bad file {}", refusal.number()),
+            Err(refusal) => return output.write_all(&line::of_refusal(refusal.number())),
         }
     }
 }
 
 /// "Each: tag, options (raster, wipe), words". The line of the next job, or none where there is no job any more.
-fn job(sections: &mut Sections<impl Read>) -> Result<Option<String>, Refusal> {
+fn job(sections: &mut Sections<impl Read>) -> Result<Option<Vec<u8>>, Refusal> {
     let Some(tag) = sections.tag()? else {
         return Ok(None);
     };
     let raster = sections.raster()?;
     let words = sections.words()?;
-    let report = module::report(raster, &words);
-    Ok(Some(line(&tag, &report)))
-}
-
-/// As in "A17 raster 1 rows 0 faults 0 NO SIGNAL".
-fn line(tag: &str, report: &Report) -> String {
     let Report {
         raster,
         rows,
         faults,
         verdict,
-    } = report;
-    format!("{tag} raster {raster} rows {rows} faults {faults} {verdict}")
+    } = module::report(raster, &words);
+    let line = line::of_job(&tag, [raster, rows, faults], Some(verdict));
+    Ok(Some(line))
 }

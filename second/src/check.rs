@@ -4,7 +4,7 @@ use crate::crc::{after_words, encode, is_carry, Carry};
 use crate::layout::{Layout, Row, C, CRC, EAV, LINE, Y};
 use crate::packet::{has_wrong_checksum, scan};
 use crate::refusal::{refuse, Refusal};
-use crate::words::{all_words, is_reserved};
+use crate::words::{all_words, any_reserved};
 
 /// The layout of a row that can be read, or its refusal: 4, 5, 2 or 3.
 pub fn readable(code: u32, line: u32, row: Row) -> Result<Layout, Refusal> {
@@ -26,6 +26,13 @@ pub fn refuse_carry(carry: Option<Carry>) -> Result<(), Refusal> {
     refuse(&[(Refusal::Word, !registers.into_iter().all(is_carry))])
 }
 
+/// The layout of a row that can be checked or corrected with a carry, or the refusal.
+pub fn checkable(code: u32, line: u32, carry: Option<Carry>, row: Row) -> Result<Layout, Refusal> {
+    let layout = readable(code, line, row)?;
+    refuse_carry(carry)?;
+    Ok(layout)
+}
+
 /// The flags of a row and the next carry, or a refusal.
 pub fn check(
     code: u32,
@@ -33,8 +40,7 @@ pub fn check(
     carry: Option<Carry>,
     row: Row,
 ) -> Result<(u32, Carry), Refusal> {
-    let layout = readable(code, line, row)?;
-    refuse_carry(carry)?;
+    let layout = checkable(code, line, carry, row)?;
     Ok(judge(&layout, carry, row))
 }
 
@@ -42,16 +48,20 @@ pub fn check(
 pub fn judge(layout: &Layout, carry: Option<Carry>, row: Row) -> (u32, Carry) {
     let mut flags = 0;
     for channel in [Y, C] {
-        let words = row[channel];
-        flags |= timing_flags(layout, words);
-        // "With no row before, CRC is neither judged nor corrected."
-        if let Some(carry) = carry {
-            flags |= flag(3 + channel, words[CRC] != right_crc(carry[channel], words));
-        }
-        flags |= packet_flags(layout, channel, words);
-        flags |= reserved_flag(layout, words);
+        let register = carry.map(|carry| carry[channel]);
+        flags |= channel_flags(layout, channel, register, row[channel]);
     }
     (flags, next_carry(layout, row))
+}
+
+/// The flags of one channel of a row.
+pub fn channel_flags(layout: &Layout, channel: usize, register: Option<u32>, words: &[u16]) -> u32 {
+    let mut flags = timing_flags(layout, words);
+    // "With no row before, CRC is neither judged nor corrected."
+    if let Some(register) = register {
+        flags |= flag(3 + channel, words[CRC] != right_crc(register, words));
+    }
+    flags | packet_flags(layout, channel, words) | reserved_flag(layout, words)
 }
 
 /// "Flags, by bit".
@@ -82,7 +92,7 @@ fn packet_flags(layout: &Layout, channel: usize, words: &[u16]) -> u32 {
 /// "8 reserved code (000-003, 3FC-3FF) in active words where V = 0"
 fn reserved_flag(layout: &Layout, words: &[u16]) -> u32 {
     let active = &words[layout.active()];
-    flag(8, !layout.v && active.iter().any(|&word| is_reserved(word)))
+    flag(8, !layout.v && any_reserved(active))
 }
 
 /// "Covered words: the active words of the row before, then EAV, LN0, LN1 of this row." The carry holds the row before.
@@ -90,7 +100,12 @@ pub fn right_crc(register: u32, words: &[u16]) -> [u16; 2] {
     encode(after_words(register, &words[EAV.start..LINE.end])).into()
 }
 
-/// "each channel's CRC register after a row's active words", "from zero".
+/// "each channel's CRC register after a row's active words".
 pub fn next_carry(layout: &Layout, row: Row) -> Carry {
-    row.map(|words| after_words(0, &words[layout.active()]))
+    row.map(|words| active_register(layout, words))
+}
+
+/// "from zero"
+pub fn active_register(layout: &Layout, words: &[u16]) -> u32 {
+    after_words(0, &words[layout.active()])
 }

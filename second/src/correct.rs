@@ -1,6 +1,6 @@
 //! Correcting a row.
 
-use crate::check::{next_carry, readable, refuse_carry, right_crc};
+use crate::check::{checkable, next_carry, right_crc};
 use crate::crc::Carry;
 use crate::layout::{Layout, BLANKING, C, CRC, EAV, LINE, Y};
 use crate::packet::{make_checksums_right, right_checksum, whole_packets, wipe};
@@ -15,8 +15,7 @@ pub fn correct(
     wiping: bool,
     row: [&mut [u16]; 2],
 ) -> Result<Carry, Refusal> {
-    let layout = readable(code, line, row.each_ref().map(|words| &**words))?;
-    refuse_carry(carry)?;
+    let layout = checkable(code, line, carry, row.each_ref().map(|words| &**words))?;
     let corrected = [Y, C].map(|channel| {
         let mut words = row[channel].to_vec();
         if wiping {

@@ -30,6 +30,11 @@ pub fn after_words(register: u32, words: &[u16]) -> u32 {
 /// "The carry is each channel's CRC register after a row's active words": that of Y, then that of C.
 pub type Carry = [u32; 2];
 
+/// "1 and the registers of Y and C, or `0 0 0` for none"
+pub fn carry_numbers(carry: Option<Carry>) -> [u32; 3] {
+    carry.map_or([0; 3], |[y, c]| [1, y, c])
+}
+
 /// "a carry above 3FFFF"
 pub fn is_carry(register: u32) -> bool {
     register <= 0x3ffff

@@ -2,13 +2,18 @@
 
 pub mod camera;
 pub mod captures;
+mod channel_requests;
 mod codes;
 #[cfg(test)]
 mod coverage;
 pub mod cuts;
+mod desk_requests;
+mod desks;
 mod faults;
 pub mod files;
 pub mod frames;
+#[cfg(test)]
+mod gate_coverage;
 mod lists;
 mod modules;
 mod packet_requests;
@@ -20,11 +25,17 @@ mod row_requests;
 mod rows;
 #[cfg(test)]
 mod session_coverage;
+mod session_part_requests;
 mod session_requests;
 mod sessions;
+mod sights;
 pub mod signals;
 mod streams;
 mod syncs;
+#[cfg(test)]
+mod whole_desks;
+#[cfg(test)]
+mod whole_parts;
 #[cfg(test)]
 mod whole_streams;
 
@@ -36,7 +47,7 @@ type Request = Vec<u32>;
 type Maker = fn(&mut Generator) -> Request;
 
 /// How often each function is asked for; the more there is to get wrong, the oftener.
-const MAKERS: [(u32, Maker); 41] = [
+const MAKERS: [(u32, Maker); 63] = [
     (2, Generator::all_words),
     (1, Generator::is_reserved),
     (1, Generator::with_bit_nine),
@@ -44,6 +55,8 @@ const MAKERS: [(u32, Maker); 41] = [
     (2, Generator::part),
     (1, Generator::same),
     (2, Generator::lay),
+    (1, Generator::any_reserved),
+    (2, Generator::lay_times),
     (1, Generator::raster_row),
     (3, Generator::name_raster),
     (3, Generator::v_and_f),
@@ -68,16 +81,36 @@ const MAKERS: [(u32, Maker); 41] = [
     (2, Generator::checksum),
     (5, Generator::wipe),
     (5, Generator::right_checksums),
+    (1, Generator::active_region),
+    (3, Generator::scan_channel),
     (13, Generator::check_row),
     (16, Generator::correct_row),
     (12, Generator::build_row),
     (13, Generator::judge_row),
     (4, Generator::row_refusal),
     (2, Generator::row_layout),
-    (5, Generator::begin),
-    (35, Generator::feed),
-    (7, Generator::end),
-    (11, Generator::module),
+    (5, Generator::judge_channel),
+    (1, Generator::crc_of_active),
+    (1, Generator::crc_of_start),
+    (1, Generator::makes_reserved),
+    (1, Generator::carry_says),
+    (1, Generator::is_carry),
+    (3, Generator::check_refusal),
+    (7, Generator::begin),
+    (44, Generator::feed),
+    (9, Generator::end),
+    (14, Generator::module),
+    (6, Generator::look),
+    (1, Generator::last_pair),
+    (6, Generator::happen),
+    (3, Generator::lay_event),
+    (2, Generator::counts),
+    (2, Generator::verdict),
+    (5, Generator::take_words),
+    (3, Generator::read_bytes),
+    (4, Generator::desk),
+    (7, Generator::take),
+    (3, Generator::outcome_line),
 ];
 
 pub struct Generator {
@@ -163,6 +196,27 @@ impl Generator {
         let place = lists::place(&mut self.random, count);
         let words = lists::output(&mut self.random, count as usize);
         request(&[&[LAY], &list(&buffer), &[place], &list(&words)])
+    }
+
+    /// Words of which none, one or some are about the reserved codes.
+    fn any_reserved(&mut self) -> Request {
+        let random = &mut self.random;
+        let count = lists::length(random);
+        let mut words: Vec<u16> = (0..count).map(|_| random.short(0x004, 0x3fb)).collect();
+        for _ in 0..random.below(3) {
+            let word = lists::near_reserved(random);
+            regions::change_a_word(random, &mut words, |_| word);
+        }
+        request(&[&[ANY_RESERVED], &list(&words)])
+    }
+
+    fn lay_times(&mut self) -> Request {
+        let random = &mut self.random;
+        let count = random.below(12);
+        let buffer = lists::content(random, count as usize);
+        let (place, times) = (lists::place(random, count), lists::place(random, count));
+        let word = lists::any_word(random);
+        request(&[&[LAY_TIMES], &list(&buffer), &[place, times, word.into()]])
     }
 
     fn raster_row(&mut self) -> Request {

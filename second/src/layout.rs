@@ -1,10 +1,11 @@
 //! Where a row's parts stand, and what raster and line say of them:
 //! "A row of T pairs: EAV 4, LN 2, CRC 2, blanking T-A-12, SAV 4, active A."
 
+use crate::crc::after_words;
 use crate::raster::{raster_with_line, v_and_f, Raster};
 use crate::refusal::Refusal;
 use crate::timing::{encode_line, xyz};
-use crate::words::is_reserved;
+use crate::words::any_reserved;
 use std::ops::Range;
 
 /// "A row's channels are two lent slices of words, Y and C."
@@ -68,11 +69,17 @@ impl Layout {
         encode_line(self.line).into()
     }
 
+    /// The CRC register after the EAV and line number words as they should be, from a register.
+    pub fn start_register(&self, register: u32) -> u32 {
+        let register = after_words(register, &self.eav_words());
+        after_words(register, &self.line_words())
+    }
+
     /// "a timing code, line number, CRC [..] to be made would be a reserved code"; the CRC words, where made, are given.
     pub fn makes_reserved(&self, crc: &[u16]) -> bool {
         let codes = [self.eav_words()[3], self.sav_words()[3]];
         let made = [&codes[..], &self.line_words(), crc].concat();
-        made.into_iter().any(is_reserved)
+        any_reserved(&made)
     }
 
     /// "Packets lie in the blanking of every row, and in the active words of rows whose expected line has V = 1";

@@ -1,7 +1,7 @@
 //! Ancillary packets: "000 3FF 3FF, DID, SDID, DC, then DC's low eight bits' worth of user words, then a checksum".
 
 use crate::refusal::{refuse, Refusal};
-use crate::words::{all_words, fill, is_reserved, with_bit_nine, word_of};
+use crate::words::{all_words, any_reserved, fill, with_bit_nine, word_of};
 use std::ops::Range;
 
 pub const MARKER: [u16; 3] = [0x000, 0x3ff, 0x3ff];
@@ -130,7 +130,7 @@ pub fn build(did: u8, sdid: u8, user: &[u16], output: &mut [u16]) -> Result<usiz
         (Refusal::Word, !all_words(user)),
         (Refusal::Packet, did == 0x00),
         (Refusal::Packet, user.len() > 255),
-        (Refusal::Packet, user.iter().any(|&word| is_reserved(word))),
+        (Refusal::Packet, any_reserved(user)),
     ])?;
     let packet = packet((did, sdid), user);
     refuse(&[
@@ -151,7 +151,7 @@ pub fn packet((did, sdid): (u8, u8), user: &[u16]) -> Vec<u16> {
 /// "a [..] checksum or header word to be made would be a reserved code"
 fn makes_reserved(packet: &[u16]) -> bool {
     let made = [&packet[DID..USER], &packet[packet.len() - 1..]].concat();
-    made.into_iter().any(is_reserved)
+    any_reserved(&made)
 }
 
 #[cfg(test)]

@@ -1,14 +1,18 @@
 //! Answers requests: each calls one function once.
 
+mod desks;
 mod packets;
 mod rows;
+mod session_parts;
 mod sessions;
 
 use crate::arguments::Arguments;
+use crate::crc::carry_numbers;
 use crate::functions::*;
+use crate::layout::Layout;
 use crate::raster::Kind;
 use crate::refusal::Refusal;
-use crate::{cable, crc, raster, timing, words};
+use crate::{cable, check, crc, raster, timing, words};
 
 type Answer = Result<Vec<u32>, String>;
 
@@ -29,15 +33,18 @@ pub fn format_line(numbers: &[u32]) -> String {
 fn call(arguments: &mut Arguments) -> Answer {
     let function = arguments.number()?;
     match function {
-        ALL_WORDS..=LAY => call_words(function, arguments),
+        ALL_WORDS..=LAY_TIMES => call_words(function, arguments),
         RASTER_ROW..=V_AND_F => call_raster(function, arguments),
         CRC_AFTER_WORD..=CRC_AFTER_WORDS => call_crc(function, arguments),
         SCRAMBLE | UNSCRAMBLE => call_scrambler(function, arguments),
         FIND_SYNC..=UNSCRAMBLE_WORD => call_cable(function, arguments),
         XYZ..=READ_LINE => call_timing(function, arguments),
-        BUILD_PACKET..=RIGHT_CHECKSUMS => packets::call(function, arguments),
-        CHECK_ROW..=ROW_LAYOUT => rows::call(function, arguments),
+        BUILD_PACKET..=SCAN_CHANNEL => packets::call(function, arguments),
+        CARRY_SAYS | IS_CARRY => call_carry(function, arguments),
+        CHECK_ROW..=CHECK_REFUSAL => rows::call(function, arguments),
         BEGIN..=MODULE => sessions::call(function, arguments),
+        LOOK..=TAKE_WORDS => session_parts::call(function, arguments),
+        READ_BYTES..=OUTCOME_LINE => desks::call(function, arguments),
         _ => unknown(function),
     }
 }
@@ -61,6 +68,21 @@ fn list(elements: &[u16]) -> Vec<u32> {
         .collect()
 }
 
+/// The layout of a raster and a line that "are of the table".
+fn layout_of_table(arguments: &mut Arguments) -> Result<Layout, String> {
+    let layout = Layout::of(arguments.number()?, arguments.number()?);
+    layout.map_err(|_| "raster or line is not of the table".to_string())
+}
+
+/// "a channel has T words"
+fn channel(total: usize, arguments: &mut Arguments) -> Result<Vec<u16>, String> {
+    let words = arguments.runs()?;
+    if words.len() != total {
+        return Err("a row is not of T words".to_string());
+    }
+    Ok(words)
+}
+
 fn call_words(function: u32, arguments: &mut Arguments) -> Answer {
     Ok(match function {
         ALL_WORDS => vec![words::all_words(&arguments.list()?).into()],
@@ -81,6 +103,13 @@ fn call_words(function: u32, arguments: &mut Arguments) -> Answer {
             let mut buffer = arguments.list()?;
             let place = arguments.number()? as usize;
             words::lay(&mut buffer, place, &arguments.list()?);
+            list(&buffer)
+        }
+        ANY_RESERVED => vec![words::any_reserved(&arguments.list()?).into()],
+        LAY_TIMES => {
+            let mut buffer = arguments.list()?;
+            let (place, times) = (arguments.number()?, arguments.number()?);
+            words::lay_times(&mut buffer, place, times, arguments.word()?);
             list(&buffer)
         }
         _ => return unknown(function),
@@ -124,6 +153,15 @@ fn call_crc(function: u32, arguments: &mut Arguments) -> Answer {
         }
         CRC_WORDS => refusable(crc::crc_words(register).map(|(cr0, cr1)| [cr0.into(), cr1.into()])),
         CRC_AFTER_WORDS => vec![crc::after_words(register, &arguments.list()?)],
+        _ => return unknown(function),
+    })
+}
+
+fn call_carry(function: u32, arguments: &mut Arguments) -> Answer {
+    let carry = arguments.carry()?;
+    Ok(match function {
+        CARRY_SAYS => carry_numbers(carry).to_vec(),
+        IS_CARRY => vec![check::refuse_carry(carry).is_ok().into()],
         _ => return unknown(function),
     })
 }

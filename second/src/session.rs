@@ -1,9 +1,13 @@
 //! A module session: "Begin (raster), feed (words), end (verdict)."
 
+mod happening;
 mod module;
 mod numbers;
+mod sight;
 
+pub use happening::{counts_after, happen, Happening, Track};
 pub use numbers::{last_of_bits, Numbers};
+pub use sight::{last_words, lay_event, Event, Sight, EVENTS};
 
 use crate::raster::raster_of;
 use crate::refusal::{refuse, Refusal};
@@ -18,7 +22,7 @@ pub type Buffers<'a> = [&'a mut [u16]; 2];
 #[derive(Default)]
 pub struct Session(Option<Module>);
 
-#[derive(Clone, Copy)]
+#[derive(Clone, Copy, Debug, PartialEq, Eq)]
 pub enum Verdict {
     NoSignal = 1,
     Fail = 2,
@@ -34,6 +38,19 @@ impl Display for Verdict {
             Self::Short => "SHORT",
             Self::Pass => "PASS",
         })
+    }
+}
+
+/// "Verdict, first that holds: NO SIGNAL, no sync; FAIL, faults not 0; SHORT, rows below N; PASS."
+pub fn verdict(seen: bool, needed: u32, rows: u32, faults: u32) -> Verdict {
+    if !seen {
+        Verdict::NoSignal
+    } else if faults != 0 {
+        Verdict::Fail
+    } else if rows < needed {
+        Verdict::Short
+    } else {
+        Verdict::Pass
     }
 }
 
@@ -63,6 +80,13 @@ impl Session {
         ])?;
         module.feed(words, buffers);
         Ok(())
+    }
+
+    /// What feeding does to an open session, refusing nothing; of the words the low ten bits count.
+    pub fn take_words(&mut self, words: &[u16], buffers: &mut Buffers) {
+        if let Some(module) = &mut self.0 {
+            module.feed(words, buffers);
+        }
     }
 
     pub fn end(&mut self) -> Result<Report, Refusal> {

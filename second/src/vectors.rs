@@ -2,10 +2,12 @@
 
 mod built;
 mod damaged;
+mod desks;
 mod modules;
 mod packets;
 mod refused;
 mod row_ends;
+mod session_parts;
 mod sessions;
 mod wiped;
 
@@ -34,6 +36,8 @@ pub fn all() -> Vec<Vector> {
         nine_bits(),
         word_limits(),
         row_limits(),
+        carries(),
+        laid_words(),
         rasters(),
         places(),
         blanked(),
@@ -46,6 +50,8 @@ pub fn all() -> Vec<Vector> {
         wiped::all(),
         refused::all(),
         sessions::all(),
+        session_parts::all(),
+        desks::all(),
         row_ends::all(),
         modules::all(),
     ];
@@ -150,6 +156,42 @@ fn word_limits() -> Vec<Vector> {
         vector(&[READ_LINE, 1, 0x3ff, 0x3ff], &[0, 0]),
         vector(&[READ_LINE, 1, 0x400, 0x200], &[3, 0]),
         vector(&[READ_LINE, 1, 0x204, 0x400], &[3, 0]),
+    ]
+}
+
+/// What a carry says, and "a carry above 3FFFF".
+fn carries() -> Vec<Vector> {
+    let carries = [
+        ([0, 0, 0], 1),
+        ([1, 0, 0], 1),
+        ([1, 0x3ffff, 0x3ffff], 1),
+        ([1, 0x40000, 0], 0),
+        ([1, 0, 0x40000], 0),
+        ([1, 0xffff_ffff, 0xffff_ffff], 0),
+    ];
+    carries
+        .into_iter()
+        .flat_map(|(carry, in_range)| {
+            let [known, y, c] = carry;
+            [
+                vector(&[CARRY_SAYS, known, y, c], &carry),
+                vector(&[IS_CARRY, known, y, c], &[in_range]),
+            ]
+        })
+        .collect()
+}
+
+/// A word laid so many times, and words sought for "000-003, 3FC-3FF": the whole number is compared.
+fn laid_words() -> Vec<Vector> {
+    vec![
+        vector(&[LAY_TIMES, 4, 1, 2, 3, 4, 1, 2, 9], &[4, 1, 9, 9, 4]),
+        vector(&[LAY_TIMES, 2, 1, 2, 1, 0xffff_ffff, 9], &[2, 1, 9]),
+        vector(&[LAY_TIMES, 2, 1, 2, 2, 1, 9], &[2, 1, 2]),
+        vector(&[LAY_TIMES, 2, 1, 2, 0, 0, 9], &[2, 1, 2]),
+        vector(&[ANY_RESERVED, 0], &[0]),
+        vector(&[ANY_RESERVED, 4, 0x004, 0x3fb, 0x400, 0xffff], &[0]),
+        vector(&[ANY_RESERVED, 2, 0x004, 0x003], &[1]),
+        vector(&[ANY_RESERVED, 2, 0x3fc, 0x3fb], &[1]),
     ]
 }
 

@@ -19,6 +19,10 @@ pub fn is_reserved(word: u16) -> bool {
     matches!(word, 0x000..=0x003 | 0x3fc..=0x3ff)
 }
 
+pub fn any_reserved(words: &[u16]) -> bool {
+    words.iter().any(|&word| is_reserved(word))
+}
+
 /// The low nine bits; "bit 9 is the inverse of bit 8".
 pub fn with_bit_nine(number: u16) -> u16 {
     let mut bits = bits_of(number);
@@ -60,6 +64,12 @@ pub fn lay(buffer: &mut [u16], place: usize, words: &[u16]) {
     for (held, &word) in buffer.iter_mut().skip(place).zip(words) {
         *held = word;
     }
+}
+
+/// Lays a word so many times from a place of the buffer on; where no place is left, no more.
+pub fn lay_times(buffer: &mut [u16], place: u32, times: u32, word: u16) {
+    let places = part(buffer.len(), place, times);
+    buffer[places].fill(word);
 }
 
 /// "Beyond what a result fills, a buffer keeps what it held."

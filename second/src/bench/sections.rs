@@ -6,7 +6,7 @@ use crate::refusal::{refuse, Refusal};
 use crate::words::all_words;
 use std::io::{ErrorKind, Read};
 
-const LONGEST_TAG: u32 = 32;
+pub const LONGEST_TAG: u32 = 32;
 const WORD_BYTES: usize = 2;
 
 /// So many words are read at once.
@@ -20,7 +20,7 @@ impl<Input: Read> Sections<Input> {
     }
 
     /// The tag of the next job, or none where the input ends after the job before.
-    pub fn tag(&mut self) -> Result<Option<String>, Refusal> {
+    pub fn tag(&mut self) -> Result<Option<Vec<u8>>, Refusal> {
         let Some(count) = self.count_or_end()? else {
             return Ok(None);
         };
@@ -29,7 +29,7 @@ impl<Input: Read> Sections<Input> {
         let mut tag = vec![0; count as usize];
         self.exactly(&mut tag)?;
         refuse(&[(Refusal::File, !tag.iter().all(is_tag_byte))])?;
-        Ok(Some(tag.into_iter().map(char::from).collect()))
+        Ok(Some(tag))
     }
 
     /// The raster that the options choose. Wiping belongs to correction, so a verdict does not depend on it.
@@ -106,6 +106,6 @@ impl<Input: Read> Sections<Input> {
 }
 
 /// "printable ASCII without spaces"
-fn is_tag_byte(byte: &u8) -> bool {
+pub fn is_tag_byte(byte: &u8) -> bool {
     matches!(byte, 0x21..=0x7e)
 }

@@ -118,14 +118,7 @@ where
         size: usize,
         list: impl Fn(&mut FileParts) -> &mut Vec<T>,
     ) -> Result<(), Error> {
-        let mut place = 0;
-        while place < list(&mut self.file).len() {
-            let end = list(&mut self.file).len().min(place + size);
-            if !self.keeps(|file| drop(list(file).drain(place..end)))? {
-                place = end;
-            }
-        }
-        Ok(())
+        self.change_parts(size, list, |list, part| drop(list.drain(part)))
     }
 
     fn clear_parts<T: Clone + Default>(
@@ -133,11 +126,26 @@ where
         size: usize,
         list: impl Fn(&mut FileParts) -> &mut Vec<T>,
     ) -> Result<(), Error> {
+        self.change_parts(size, list, |list, part| list[part].fill(T::default()))
+    }
+
+    /// Goes through a list part by part; what follows a part that was dropped comes to its place.
+    fn change_parts<T>(
+        &mut self,
+        size: usize,
+        list: impl Fn(&mut FileParts) -> &mut Vec<T>,
+        change: impl Fn(&mut Vec<T>, Range<usize>),
+    ) -> Result<(), Error> {
         let mut place = 0;
-        while place < list(&mut self.file).len() {
-            let end = list(&mut self.file).len().min(place + size);
-            self.keeps(|file| list(file)[place..end].fill(T::default()))?;
-            place = end;
+        let mut length = list(&mut self.file).len();
+        while place < length {
+            let end = length.min(place + size);
+            self.keeps(|file| change(list(file), place..end))?;
+            let before = length;
+            length = list(&mut self.file).len();
+            if length == before {
+                place = end;
+            }
         }
         Ok(())
     }

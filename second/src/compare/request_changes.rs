@@ -1,7 +1,10 @@
 //! Smaller numbers for one argument of a request. Places and ranges are of its numbers.
 
+use super::file_parts::FileParts;
+use super::halvings::halvings;
 use super::request_parts::{Kind, Piece};
 use crate::arguments::Arguments;
+use crate::job::Job;
 use crate::requests::format_line;
 use std::ops::Range;
 
@@ -45,11 +48,12 @@ pub fn cleared(piece: &Piece, range: Range<usize>) -> Numbers {
     numbers
 }
 
-/// No carry; a session that is closed, or just begun, or has no carry.
+/// No carry; a session that is closed, or just begun, or has no carry; a file of less or smaller jobs.
 pub fn simpler(piece: &Piece) -> Vec<Numbers> {
     let none = vec![0; piece.numbers.len()];
     match piece.kind {
         Kind::Carry => vec![none],
+        Kind::Bytes => simpler_files(&piece.numbers),
         Kind::Session => {
             let mut begun = none.clone();
             begun[..2].copy_from_slice(&piece.numbers[..2]);
@@ -60,6 +64,44 @@ pub fn simpler(piece: &Piece) -> Vec<Numbers> {
         }
         _ => Vec::new(),
     }
+}
+
+/// The file without one of its jobs, or with fewer words, a short tag or plain options in one; their counts stay right.
+fn simpler_files(numbers: &[u32]) -> Vec<Numbers> {
+    let bytes: Vec<u8> = numbers.iter().map(|&number| number as u8).collect();
+    let file = FileParts::of(&bytes);
+    let mut files = Vec::new();
+    for place in 0..file.jobs.len() {
+        let mut without = file.clone();
+        without.jobs.remove(place);
+        files.push(without);
+        for job in simpler_jobs(&file.jobs[place]) {
+            let mut changed = file.clone();
+            changed.jobs[place] = job;
+            files.push(changed);
+        }
+    }
+    let numbers = |file: FileParts| file.bytes().into_iter().map(u32::from).collect();
+    files.into_iter().map(numbers).collect()
+}
+
+/// Words less at the front or at the back: all, halves, quarters .. single ones; the tag `A`; the shortest raster.
+fn simpler_jobs(job: &Job) -> Vec<Job> {
+    let count = job.words.len();
+    let parts = halvings(count).flat_map(|size| [size..count, 0..count - size]);
+    let fewer = parts.map(|part| Job {
+        words: job.words[part].to_vec(),
+        ..job.clone()
+    });
+    let plain_tag = Job {
+        tag: b"A".to_vec(),
+        ..job.clone()
+    };
+    let plain_options = Job {
+        options: vec![1, 0],
+        ..job.clone()
+    };
+    fewer.chain([plain_tag, plain_options]).collect()
 }
 
 /// One number becomes 0, or is less by a half, a quarter .. and one.

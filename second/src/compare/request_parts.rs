@@ -6,6 +6,8 @@ use crate::functions::*;
 pub enum Kind {
     Number,
     List,
+    /// The bytes of a bench file, or the last of them.
+    Bytes,
     Runs,
     /// The runs of a SIGNAL, each of how often and two words.
     Twos,
@@ -17,7 +19,7 @@ impl Kind {
     /// How many numbers an element has, where a count says how many elements follow.
     pub fn width(self) -> Option<usize> {
         match self {
-            Self::List => Some(1),
+            Self::List | Self::Bytes => Some(1),
             Self::Runs => Some(2),
             Self::Twos => Some(3),
             Self::Number | Self::Carry | Self::Session => None,
@@ -103,19 +105,19 @@ impl Parts {
     }
 }
 
-/// A SIGNAL is a flag, runs of two and a list.
 fn arguments(function: u32) -> Option<&'static [Kind]> {
-    use Kind::{Carry, List, Number, Runs, Session, Twos};
+    use Kind::{Carry, List, Number, Runs};
     Some(match function {
-        ALL_WORDS | FIND_SYNC => &[List],
+        ALL_WORDS | ANY_RESERVED | FIND_SYNC => &[List],
         SAME => &[List, List],
         STORE | PART => &[List, Number, Number],
         LAY => &[List, Number, List],
+        LAY_TIMES => &[List, Number, Number, Number],
         IS_RESERVED | WITH_BIT_NINE | RASTER_ROW | CRC_WORDS | READ_XYZ => &[Number],
-        V_AND_F | CRC_AFTER_WORD | SCRAMBLE_WORD | UNSCRAMBLE_WORD => &[Number, Number],
-        LINE_WORDS | ROW_LAYOUT => &[Number, Number],
-        XYZ | READ_LINE => &[Number, Number, Number],
-        NAME_RASTER => &[Number, Number, Number, Number],
+        V_AND_F | CRC_AFTER_WORD | SCRAMBLE_WORD | UNSCRAMBLE_WORD => &[Number; 2],
+        LINE_WORDS | ROW_LAYOUT | LAST_PAIR => &[Number; 2],
+        XYZ | READ_LINE | CRC_OF_START => &[Number; 3],
+        NAME_RASTER | MAKES_RESERVED | VERDICT => &[Number; 4],
         CRC_CHECKED | CRC_AFTER_WORDS => &[Number, List],
         SCRAMBLE | UNSCRAMBLE => &[Number, List, List],
         BUILD_PACKET | ROW_REFUSAL => &[Number, Number, Runs, Runs],
@@ -125,13 +127,38 @@ fn arguments(function: u32) -> Option<&'static [Kind]> {
         SCAN | CHECKSUM => &[Runs],
         WIPE => &[Runs, Number, Number, Number],
         RIGHT_CHECKSUMS => &[Runs, Number, Number],
-        CHECK_ROW | JUDGE_ROW => &[Number, Number, Carry, Runs, Runs],
+        ACTIVE_REGION | SCAN_CHANNEL | CRC_OF_ACTIVE => &[Number, Number, Runs],
+        JUDGE_CHANNEL => &[Number, Number, Number, Number, Runs],
+        CARRY_SAYS | IS_CARRY => &[Carry],
+        CHECK_ROW | CHECK_REFUSAL | JUDGE_ROW => &[Number, Number, Carry, Runs, Runs],
         CORRECT_ROW => &[Number, Number, Carry, Number, Runs, Runs],
         BUILD_ROW => &[Number, Number, Carry, Runs, Runs, Runs, Runs, Runs, Runs],
+        _ => return arguments_of_sessions(function),
+    })
+}
+
+/// Those of the functions of sessions and of bench files. A SIGNAL is a flag, runs of two and a list.
+fn arguments_of_sessions(function: u32) -> Option<&'static [Kind]> {
+    use Kind::{Bytes, Carry, List, Number, Runs, Session, Twos};
+    Some(match function {
         BEGIN => &[Session, Number],
-        FEED => &[Session, Number, Twos, List, Runs, Runs],
+        FEED | TAKE_WORDS => &[Session, Number, Twos, List, Runs, Runs],
         END => &[Session],
         MODULE => &[Number, List, Number, Twos, List, Runs, Runs],
+        // A SIGHT, a flag and T.
+        LOOK => &[Number; 8],
+        HAPPEN => &[Number, Number, Number, Carry, Runs, Runs],
+        LAY_EVENT => &[Number, Number, Number, Number, Runs],
+        // A HAPPENING and two counts.
+        COUNTS => &[Number; 6],
+        READ_BYTES => &[Bytes],
+        DESK => &[List, Bytes, Runs, Runs],
+        // A READER and a session, then what is lent.
+        TAKE => &[
+            Number, Number, Number, Number, Number, List, Session, Bytes, Runs, Runs,
+        ],
+        // An OUTCOME.
+        OUTCOME_LINE => &[Number, Number, List, Number, Number, Number, Number, Number],
         _ => return None,
     })
 }

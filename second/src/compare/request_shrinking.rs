@@ -136,9 +136,11 @@ where
 
 #[cfg(test)]
 mod tests {
+    use super::super::file_parts::FileParts;
     use super::*;
     use crate::functions::*;
     use crate::generate::Generator;
+    use crate::job::Job;
     use std::convert::Infallible;
 
     /// The smallest request found that fits.
@@ -201,6 +203,29 @@ mod tests {
         assert_eq!(found, [MODULE, 0, 2, 0, 0, 0, 0, 2, 250, 260, 0, 0]);
     }
 
+    /// Words are dropped with the counts before them.
+    #[test]
+    fn a_file_keeps_its_job() {
+        let words: Vec<u16> = (0..600).collect();
+        let jobs = [
+            Job::new("CAM-1", 7, true, vec![1, 2, 3]),
+            Job::new("CAM-2", 5, false, words),
+            Job::new("CAM-3", 2, false, Vec::new()),
+        ];
+        let bytes: Vec<u32> = jobs.iter().flat_map(Job::bytes).map(u32::from).collect();
+        let count = bytes.len() as u32;
+        let request = [&[DESK, 2, 9, 9, count], &bytes[..], &[0, 0]].concat();
+        let found = smallest(&request, |parts| {
+            let bytes = parts.pieces[1].numbers.iter().map(|&byte| byte as u8);
+            let jobs = FileParts::of(&bytes.collect::<Vec<u8>>()).jobs;
+            jobs.iter().any(|job| job.words.contains(&300))
+        });
+        // Three counts and a word are left, and at most a tag of one byte and two of options.
+        assert_eq!(found[..2], [DESK, 0]);
+        assert!(found[2] <= 17, "{found:x?}");
+        assert!(found.ends_with(&[1, 0, 0, 0, 44, 1, 0, 0]), "{found:x?}");
+    }
+
     /// Where all differ only what the format needs is left: the two rows of T words.
     #[test]
     fn every_request_gets_small() {
@@ -212,7 +237,7 @@ mod tests {
                 found[1..].iter().filter(|&&number| number > 0).count() <= 6,
                 "{found:x?}"
             );
-            assert!(found.len() <= 22, "{found:x?}");
+            assert!(found.len() <= 26, "{found:x?}");
         }
     }
 }

@@ -36,7 +36,7 @@ fn answered(request: &[u32], place: usize) -> u32 {
     u32::from_str_radix(number, 16).expect("answers are hexadecimal")
 }
 
-const OF_PACKETS_AND_ROWS: [u32; 14] = [
+const OF_PACKETS_AND_ROWS: [u32; 21] = [
     BUILD_PACKET,
     FIND_PACKET,
     EXTRACT,
@@ -45,12 +45,19 @@ const OF_PACKETS_AND_ROWS: [u32; 14] = [
     CHECKSUM,
     WIPE,
     RIGHT_CHECKSUMS,
+    ACTIVE_REGION,
+    SCAN_CHANNEL,
     CHECK_ROW,
     CORRECT_ROW,
     BUILD_ROW,
     JUDGE_ROW,
     ROW_REFUSAL,
     ROW_LAYOUT,
+    JUDGE_CHANNEL,
+    CRC_OF_ACTIVE,
+    CRC_OF_START,
+    MAKES_RESERVED,
+    CHECK_REFUSAL,
 ];
 
 const OF_SESSIONS: [u32; 4] = [BEGIN, FEED, END, MODULE];
@@ -73,7 +80,7 @@ fn most_other_requests_are_of_packets_and_rows() {
         JUDGE_ROW,
     ];
     let asked = requests(&OF_PACKETS_AND_ROWS).len();
-    assert!(2 * asked > COUNT - requests(&OF_SESSIONS).len());
+    assert!(5 * asked > 2 * (COUNT - requests(&OF_SESSIONS).len()));
     assert!(2 * requests(&heaviest).len() > asked);
 }
 
@@ -96,10 +103,13 @@ fn every_refusal_comes() {
         (BUILD_ROW, &[0, 1, 2, 3, 4, 5]),
         (ROW_REFUSAL, &[0, 2, 3, 4, 5]),
         (ROW_LAYOUT, &[0, 4, 5]),
+        (CHECK_REFUSAL, &[0, 2, 3, 4, 5]),
         (BEGIN, &[0, 4, 7]),
         (FEED, &[0, 1, 3, 7]),
         (END, &[0, 7]),
         (MODULE, &[0, 4]),
+        (DESK, &[0, 1]),
+        (TAKE, &[0, 1, 7]),
     ] {
         let requests = requests(&[function]).into_iter();
         let come: Vec<u32> = requests.map(|request| answered(&request, 0)).collect();

@@ -92,19 +92,38 @@ pub fn file(seed: u64) -> File {
     let mut bytes: Vec<u8> = jobs.iter().flat_map(Job::bytes).collect();
     if !random.one_in(4) {
         let most = random.pick(&[SHORT, SHORT, SHORT, LONG]);
-        let job = rowless_job(random, most);
         notes.turn = seed;
-        let bad = bad_jobs::bad_job(random, job, &mut notes);
-        bytes.extend(bad.bytes());
-        // Of the jobs after it nothing is read.
-        if !bad.is_cut() && random.bit() {
-            bytes.extend(rowless_job(random, SHORT).bytes());
-        }
+        bytes.extend(bad_end(random, most, &mut notes));
     }
     File {
         bytes,
         kinds: notes.kinds,
     }
+}
+
+/// A bad job of at most so many words, and perhaps another job.
+fn bad_end(random: &mut Random, most: usize, notes: &mut Notes) -> Vec<u8> {
+    let job = rowless_job(random, most);
+    let bad = bad_jobs::bad_job(random, job, notes);
+    let mut bytes = bad.bytes();
+    // Of the jobs after it nothing is read.
+    if !bad.is_cut() && random.bit() {
+        bytes.extend(rowless_job(random, most.min(SHORT)).bytes());
+    }
+    bytes
+}
+
+/// A few jobs without rows, each of at most so many words, half of the time with a bad job after them.
+pub fn short_file(random: &mut Random, most: usize) -> Vec<u8> {
+    let count = random.pick(&[0, 1, 1, 2, 3]);
+    let jobs: Vec<Job> = (0..count).map(|_| rowless_job(random, most)).collect();
+    let mut bytes: Vec<u8> = jobs.iter().flat_map(Job::bytes).collect();
+    if count == 0 || random.bit() {
+        let turn = random.number().into();
+        let kinds = Vec::new();
+        bytes.extend(bad_end(random, most, &mut Notes { kinds, turn }));
+    }
+    bytes
 }
 
 /// None, a few, now and then tens of short ones, or seldom one of a frame.

@@ -10,7 +10,7 @@ use crate::search;
 
 impl Generator {
     /// A row, right, damaged or refused, with packets of any pair.
-    fn any_row(&mut self) -> Row {
+    pub(super) fn any_row(&mut self) -> Row {
         let wanted = pair(&mut self.random);
         let mut row = row(&mut self.random, wanted);
         spoil_row(&mut self.random, &mut row);
@@ -79,17 +79,22 @@ impl Generator {
     }
 
     /// A row that nothing is refused of, half of the time with words above 3FF, which often look like those they stand for.
-    pub(super) fn judge_row(&mut self) -> Request {
+    pub(super) fn any_words(&mut self) -> Row {
         let random = &mut self.random;
         let wanted = pair(random);
-        let Row { head, mut words } = row(random, wanted);
+        let mut row = row(random, wanted);
         if random.bit() {
             for _ in 0..random.between(1, 4) {
                 let high = random.short(1, 0x3f) << 10;
-                let words = &mut words[random.place(2)];
+                let words = &mut row.words[random.place(2)];
                 regions::change_a_word(random, words, |word| word | high);
             }
         }
+        row
+    }
+
+    pub(super) fn judge_row(&mut self) -> Request {
+        let Row { head, words } = self.any_words();
         let numbers = [JUDGE_ROW, head.code, head.line];
         request(&[&numbers, &head.carry_numbers(), &both(&words)])
     }
@@ -108,7 +113,7 @@ impl Generator {
     }
 }
 
-fn both(words: &[Vec<u16>; 2]) -> Request {
+pub fn both(words: &[Vec<u16>; 2]) -> Request {
     words.iter().flat_map(|words| runs(words)).collect()
 }
 

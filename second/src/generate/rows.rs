@@ -5,7 +5,7 @@ use super::regions::{change_a_word, lay_pieces};
 use super::{lists, rasters};
 use crate::check::right_crc;
 use crate::correct::correct;
-use crate::crc::Carry;
+use crate::crc::{carry_numbers, Carry};
 use crate::layout::{Layout, BLANKING, CRC, EAV, LINE};
 use crate::random::Random;
 use crate::runs::runs;
@@ -21,7 +21,7 @@ pub struct Head {
 
 impl Head {
     pub fn carry_numbers(&self) -> [u32; 3] {
-        self.carry.map_or([0; 3], |[y, c]| [1, y, c])
+        carry_numbers(self.carry)
     }
 
     /// The layout of a head that no fault was put in.

@@ -33,12 +33,7 @@ impl Generator {
     }
 
     pub(super) fn feed(&mut self) -> Request {
-        let random = &mut self.random;
-        let feed = match random.below(5) {
-            0 => short_feed(random),
-            _ => feed_in_a_row(random),
-        };
-        feed.request(random)
+        any_feed(&mut self.random).request(&mut self.random)
     }
 
     pub(super) fn module(&mut self) -> Request {
@@ -50,10 +45,10 @@ impl Generator {
 const MOST_LISTED: usize = 200;
 
 /// What feeding takes, with the words as they are before they are scrambled.
-struct Feed {
-    numbers: Numbers,
-    words: Vec<u16>,
-    buffers: [Vec<u16>; 2],
+pub struct Feed {
+    pub numbers: Numbers,
+    pub words: Vec<u16>,
+    pub buffers: [Vec<u16>; 2],
 }
 
 impl Feed {
@@ -61,6 +56,24 @@ impl Feed {
         if random.one_in(8) {
             self.spoil(random);
         }
+        let to_scramble = self.scramble(random);
+        self.of(FEED, to_scramble)
+    }
+
+    /// Words that are fed refusing nothing, also where they are above 3FF.
+    pub fn unrefused(mut self, random: &mut Random) -> Request {
+        let to_scramble = self.scramble(random);
+        if !to_scramble && random.bit() {
+            for _ in 0..random.between(1, 3) {
+                let high = random.short(1, 0x3f) << 10;
+                regions::change_a_word(random, &mut self.words, |word| word | high);
+            }
+        }
+        self.of(TAKE_WORDS, to_scramble)
+    }
+
+    /// Scrambles the words if they are few and can be; answers whether that is still to be done.
+    fn scramble(&mut self, random: &mut Random) -> bool {
         let history = self.numbers.history;
         let can_be = is_word(history) && all_words(&self.words);
         let to_scramble = can_be && (random.bit() || self.words.len() > MOST_LISTED);
@@ -68,9 +81,13 @@ impl Feed {
         if can_be && !to_scramble && !random.one_in(20) {
             self.words = signals::scrambled_words(history, &self.words);
         }
+        to_scramble
+    }
+
+    fn of(self, function: u32, to_scramble: bool) -> Request {
         let [y, c] = self.buffers.map(|buffer| runs(&buffer));
         let signal = runs::signal(to_scramble, &self.words);
-        request(&[&[FEED], &self.numbers.list(), &signal, &y, &c])
+        request(&[&[function], &self.numbers.list(), &signal, &y, &c])
     }
 
     /// What is refused, one or more at once.
@@ -92,6 +109,13 @@ impl Feed {
                 }
             }
         }
+    }
+}
+
+pub fn any_feed(random: &mut Random) -> Feed {
+    match random.below(5) {
+        0 => short_feed(random),
+        _ => feed_in_a_row(random),
     }
 }
 
@@ -128,7 +152,7 @@ fn feed_in_a_row(random: &mut Random) -> Feed {
 }
 
 /// A row that has no flag, often of the last line, or one that may have any.
-fn any_row(random: &mut Random) -> Row {
+pub fn any_row(random: &mut Random) -> Row {
     if random.bit() {
         let mut head = head(random);
         if random.one_in(6) {
@@ -169,7 +193,7 @@ fn fill_buffers(random: &mut Random, buffers: &mut [Vec<u16>; 2], place: usize) 
 }
 
 /// Line words that are not exact, or are those of another line.
-fn spoil_line_words(random: &mut Random, y: &mut [u16]) {
+pub fn spoil_line_words(random: &mut Random, y: &mut [u16]) {
     let place = random.pick(&[LINE.start, LINE.end - 1]);
     let bit = 1 << random.below(10);
     match random.below(4) {

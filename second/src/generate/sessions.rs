@@ -77,12 +77,12 @@ pub fn alter(random: &mut Random, numbers: &mut Numbers) {
 }
 
 /// A count, often near a limit or at the ceiling.
-fn count(random: &mut Random, limit: u32) -> u32 {
+pub fn count(random: &mut Random, limit: u32) -> u32 {
     match random.below(4) {
         0 => random.pick(&[u32::MAX, u32::MAX, u32::MAX - 1, u32::MAX - 2]),
         1 => random.number(),
         2 => 0,
-        _ => random.pick(&[limit - 1, limit, limit + 1]),
+        _ => random.pick(&[limit - 1, limit, limit.saturating_add(1)]),
     }
 }
 

@@ -37,7 +37,7 @@ enum Kind {
 }
 
 /// A few rows of the raster; where it is refused, those of another are fed.
-fn rows(random: &mut Random, code: u32) -> Vec<bool> {
+pub fn rows(random: &mut Random, code: u32) -> Vec<bool> {
     let code = raster_of(code).map_or(1, |_| code);
     let kind = random.pick(&[Kind::Plain, Kind::Plain, Kind::Packets, Kind::Damaged]);
     let count = random.pick(&[1, 2, 2, 2, 3, 3, 3, 4]);

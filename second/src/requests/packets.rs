@@ -1,6 +1,6 @@
 //! The functions of packets.
 
-use super::{refusable, unknown, Answer};
+use super::{channel, layout_of_table, refusable, unknown, Answer};
 use crate::arguments::Arguments;
 use crate::functions::*;
 use crate::packet::{self, Found};
@@ -15,10 +15,12 @@ pub fn call(function: u32, arguments: &mut Arguments) -> Answer {
         FIND_PACKET => find(arguments),
         EXTRACT => extract(arguments),
         PACKET_AT => packet_at(arguments),
-        SCAN => Ok(scan(&arguments.runs()?)),
+        SCAN => Ok(scanned(&[&arguments.runs()?])),
         CHECKSUM => Ok(vec![packet::checksum(&arguments.runs()?).into()]),
         WIPE => wipe(arguments),
         RIGHT_CHECKSUMS => right_checksums(arguments),
+        ACTIVE_REGION => active_region(arguments),
+        SCAN_CHANNEL => scan_channel(arguments),
         _ => unknown(function),
     }
 }
@@ -65,18 +67,36 @@ fn packet_at(arguments: &mut Arguments) -> Answer {
 
 /// "how many words its whole packets have together, 1 if a packet is cut else 0, 1 if a checksum is wrong else 0, 1 if a
 /// right checksum would be a reserved code else 0"
-fn scan(region: &[u16]) -> Vec<u32> {
-    let packets = packet::whole_packets(region);
+fn scanned(regions: &[&[u16]]) -> Vec<u32> {
+    let packets = regions.iter().map(|region| packet::whole_packets(region));
+    let packets: Vec<&[u16]> = packets.flatten().collect();
     let reserved = |packet: &&[u16]| is_reserved(packet::right_checksum(packet));
     vec![
         packets.concat().len() as u32,
-        packet::scan(region).cut.into(),
+        regions.iter().any(|region| packet::scan(region).cut).into(),
         packets
             .iter()
             .any(|packet| packet::has_wrong_checksum(packet))
             .into(),
         packets.iter().any(reserved).into(),
     ]
+}
+
+/// "the active words of a channel where V is 1, else an empty part"
+fn active_region(arguments: &mut Arguments) -> Answer {
+    let layout = layout_of_table(arguments)?;
+    let words = channel(layout.total(), arguments)?;
+    let active = if layout.v { layout.active() } else { 0..0 };
+    Ok(runs(&words[active]))
+}
+
+/// "as 54, of both regions together"
+fn scan_channel(arguments: &mut Arguments) -> Answer {
+    let layout = layout_of_table(arguments)?;
+    let words = channel(layout.total(), arguments)?;
+    let regions = layout.packet_regions().into_iter();
+    let regions: Vec<&[u16]> = regions.map(|region| &words[region]).collect();
+    Ok(scanned(&regions))
 }
 
 fn wipe(arguments: &mut Arguments) -> Answer {

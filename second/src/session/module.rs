@@ -1,10 +1,11 @@
 //! A module that was begun, bit by bit: alignment, rows and their judging.
 
-use super::{Buffers, Report, Verdict};
+use super::happening::{counts_after, Happening};
+use super::{verdict, Buffers, Report};
 use crate::cable::{cable_bits, is_sync, next_history, unscrambled, SYNC_BITS};
 use crate::check::judge;
 use crate::crc::Carry;
-use crate::layout::{Layout, EAV, LINE, Y};
+use crate::layout::{Layout, Row, EAV, LINE, Y};
 use crate::raster::Raster;
 use crate::timing::{line_of, read_xyz, SYNC_WORDS};
 use crate::words::{word_of, WORD_BITS};
@@ -80,7 +81,7 @@ impl Module {
         }
         // "the four pairs after the T-th not an EAV": with an EAV the row would have been another by now.
         if self.row == Some(self.whole_row()) {
-            self.fault_and_drop();
+            self.drop_row(Happening::DroppedLate);
         }
     }
 
@@ -117,7 +118,7 @@ impl Module {
             // "It is complete when the next EAV comes T pairs later, and is then judged."
             Some(bits) if bits == self.whole_row() => self.judge(buffers),
             // "an EAV at another distance"
-            Some(_) => self.fault_and_drop(),
+            Some(_) => self.drop_row(Happening::DroppedEarly),
             None => {}
         }
         self.row = Some(EAV_BITS);
@@ -133,43 +134,45 @@ impl Module {
         self.ahead = PAIR_BITS;
         // "a sync at another alignment": another place modulo twenty bits.
         if self.row.is_some_and(|bits| bits % PAIR_BITS != 0) {
-            self.fault_and_drop();
+            self.drop_row(Happening::DroppedAstray);
         }
     }
 
     /// "The last three [..] drop the row, carry and expected line."
-    fn fault_and_drop(&mut self) {
-        self.fault();
+    pub fn drop_row(&mut self, happening: Happening) {
+        self.count(happening);
         self.row = None;
         self.carry = None;
         self.line = None;
     }
 
-    fn fault(&mut self) {
-        self.faults = counted(self.faults);
+    fn count(&mut self, happening: Happening) {
+        [self.rows, self.faults] = counts_after(Some(happening), [self.rows, self.faults]);
     }
 
     fn judge(&mut self, buffers: &Buffers) {
         let total = self.total();
         let row = buffers.each_ref().map(|buffer| &buffer[..total]);
+        let happening = self.judged(row);
+        self.count(happening);
+    }
+
+    /// What comes of a complete row; line and carry are those of the next.
+    pub fn judged(&mut self, row: Row) -> Happening {
         let Some(line) = self.line_of_row(row[Y]) else {
             // "else one fault; that row is not judged, leaves no carry, and the next is tried"
             self.carry = None;
-            return self.fault();
+            return Happening::Unnumbered;
         };
         let layout = Layout::of(self.raster.code, line).expect("the line is of the raster");
-        // Where the row gives the line there is no carry, so its CRC is not judged.
         let (flags, next) = judge(&layout, self.carry, row);
-        // "One fault each: a judged row with any flag".
-        if flags != 0 {
-            self.fault();
-        }
-        // "A row counts once its CRC could be judged."
-        if self.carry.is_some() {
-            self.rows = counted(self.rows);
-        }
-        self.carry = Some(next);
         self.line = Some(self.line_after(line));
+        Happening::RowJudged {
+            line,
+            flags,
+            // Where the row gives the line there is no carry, so its CRC is not judged.
+            crc_judged: self.carry.replace(next).is_some(),
+        }
     }
 
     /// "The expected line is taken from the Y line words of the first complete row while none is known".
@@ -188,38 +191,20 @@ impl Module {
             raster: self.raster.code,
             rows: self.rows,
             faults: self.faults,
-            verdict: self.verdict(),
+            verdict: verdict(self.seen, self.raster.rows, self.rows, self.faults),
         }
     }
-
-    /// "Verdict, first that holds: NO SIGNAL, no sync; FAIL, faults not 0; SHORT, rows below N; PASS."
-    fn verdict(&self) -> Verdict {
-        if !self.seen {
-            Verdict::NoSignal
-        } else if self.faults != 0 {
-            Verdict::Fail
-        } else if self.rows < self.raster.rows {
-            Verdict::Short
-        } else {
-            Verdict::Pass
-        }
-    }
-}
-
-/// "Both counts stay at 4,294,967,295 once there."
-fn counted(count: u32) -> u32 {
-    count.saturating_add(1)
 }
 
 /// Y and C of the pair that ends the window; it came "C word first, then Y".
-fn last_pair(window: &[bool]) -> [u16; 2] {
+pub fn last_pair(window: &[bool]) -> [u16; 2] {
     let (before, y) = window.split_at(window.len() - WORD_BITS);
     let c = &before[before.len() - WORD_BITS..];
     [word_of(y), word_of(c)]
 }
 
 /// Whether the XYZ pair that ends the window is that of an EAV, by its Y word: "H is 1 in EAV".
-fn is_eav(window: &[bool]) -> bool {
+pub fn is_eav(window: &[bool]) -> bool {
     let [y, _] = last_pair(window);
     matches!(read_xyz(y), Ok(Some((_, _, true))))
 }

@@ -1,11 +1,11 @@
 //! The fifteen numbers of a session, their ranges, and the session that they stand for.
 
 use super::module::{Module, PAIR_BITS};
+use super::sight::Sight;
 use super::Session;
 use crate::cable::SYNC_BITS;
-use crate::crc::{is_carry, Carry};
-use crate::layout::EAV;
-use crate::raster::{raster_of, Raster};
+use crate::crc::{carry_numbers, is_carry, Carry};
+use crate::raster::raster_of;
 use crate::refusal::{refuse, Refusal};
 use crate::words::is_word;
 
@@ -30,7 +30,7 @@ pub struct Numbers {
 impl Numbers {
     pub fn list(&self) -> [u32; 15] {
         let [below, above] = self.last;
-        let [has_carry, y, c] = self.carry.map_or([0; 3], |[y, c]| [1, y, c]);
+        let [has_carry, y, c] = carry_numbers(self.carry);
         [
             self.open.into(),
             self.raster,
@@ -58,8 +58,7 @@ impl Numbers {
         };
         self.open == (self.raster != 0)
             && is_word(self.history)
-            && self.last[1] < 1 << (SYNC_BITS - 32)
-            && self.row_in_range(raster)
+            && self.sight().in_range(raster.total)
             && self.line <= raster.rows
             && self.carry_in_range()
     }
@@ -72,16 +71,13 @@ impl Numbers {
         }
     }
 
-    /// The ranges of pairs, bit and ahead.
-    fn row_in_range(&self, raster: Raster) -> bool {
-        let (first, last) = (EAV.end as u32, raster.total + EAV.end as u32 - 1);
-        let (bit, ahead) = (usize::from(self.bit), usize::from(self.ahead));
-        if self.pairs == 0 {
-            bit == 0 && ahead <= PAIR_BITS
-        } else {
-            (first..=last).contains(&self.pairs)
-                && bit < PAIR_BITS
-                && (ahead == 0 || ahead + bit == PAIR_BITS)
+    pub fn sight(&self) -> Sight {
+        Sight {
+            last: self.last,
+            ahead: self.ahead,
+            seen: self.seen,
+            pairs: self.pairs,
+            bit: self.bit,
         }
     }
 
@@ -133,7 +129,7 @@ impl Module {
     }
 }
 
-fn bits_of_last(last: [u32; 2]) -> Vec<bool> {
+pub fn bits_of_last(last: [u32; 2]) -> Vec<bool> {
     let bit = |place: usize| last[place / 32] >> (place % 32) & 1 == 1;
     (0..SYNC_BITS).map(bit).collect()
 }

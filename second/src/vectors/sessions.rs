@@ -7,7 +7,7 @@ use crate::session::Numbers;
 pub const NO_SIGNAL: u32 = 1;
 pub const FAIL: u32 = 2;
 pub const SHORT: u32 = 3;
-const PASS: u32 = 4;
+pub const PASS: u32 = 4;
 
 pub const CEILING: u32 = 4_294_967_295;
 pub const FRESH: [u32; 15] = [0; 15];

@@ -1,11 +1,12 @@
 -- Demand 1.
-use Rattle.module.proofs.Ranges.{closed-in-range, begun-in-range, fed-in-range, ended-in-range}
 use Rattle.files.proofs.NeverRefused.{never-refused}
 use Rattle.files.proofs.Pieces.{served-alike, pieces-served}
-use Rattle.files.proofs.Append.{job-alone}
+use Rattle.files.proofs.Lines.{bench-prints}
+use Rattle.files.proofs.Append.{job-alone, refused-alone}
 use Rattle.demands.specs.Demands.{DemandOne}
 use Rattle.demands.proofs.EachCall.{each-call}
-use Rattle.demands.proofs.BadFile.{bad-file}
+use Rattle.demands.proofs.EachOutcome.{each-outcome}
+use Rattle.demands.proofs.InRange.{in-range}
 use Rattle.demands.proofs.VerdictOwn.{verdict-own}
 use Rattle.demands.proofs.SameVerdict.{same-verdict}
 use Rattle.demands.proofs.LeftBetween.{left-between}
@@ -16,8 +17,8 @@ pub demand-one : DemandOne
 demand-one =
     record {
       calls = each-call;
-      bad-file = bad-file;
-      in-range = record { fresh = closed-in-range; begin = begun-in-range; feed = fed-in-range; end = ended-in-range };
+      outcomes = each-outcome;
+      in-range = in-range;
       own = verdict-own;
       same = same-verdict;
       between = left-between;
@@ -26,5 +27,7 @@ demand-one =
       never-refused = never-refused;
       served-alike = served-alike;
       pieces-served = pieces-served;
+      bench-prints = bench-prints;
       job-alone = job-alone;
+      refused-alone = refused-alone;
     }

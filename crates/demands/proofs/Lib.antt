@@ -1,6 +1,9 @@
 pub mod Numbers
+pub mod Cases
+pub mod EachByte
 pub mod EachCall
-pub mod BadFile
+pub mod EachOutcome
+pub mod InRange
 pub mod FeedsCut
 pub mod LeftBetween
 pub mod TakenAlone
@@ -9,7 +12,9 @@ pub mod SameVerdict
 pub mod NothingLeft
 pub mod FirstSync
 pub mod LineReadBack
+pub mod PacketRight
 pub mod PacketFound
+pub mod Coding
 pub mod BuiltNoFlag
 pub mod CorrectedFlags
 pub mod RowsStruck

@@ -1,19 +1,20 @@
 -- The three demands: above each proposition the sentence that it renders. A call's contract is an equation with a definition, so what is said
 -- here of the definition is said of what the call answers and leaves. proofs/ proves each.
 use mathlib.Core.Path.{_≡_}
-use mathlib.Core.Bool.{Bool, true, false}
-use mathlib.Core.List.{List, [], _∷_}
+use mathlib.Core.Bool.{Bool, true, false, not, _&&_}
+use mathlib.Core.List.{List, [], _∷_, _++_, flatMap}
 use mathlib.Core.Logic.{_↔_}
 use mathlib.Core.Option.{none, some}
-use Prim.Native.Nat.{ℕ, _/_, _%_, _<_}
-use lib.Dec.{eqb}
+use Prim.Native.Nat.{ℕ, _+_, _/_, _%_, _≤_, _<_}
+use lib.Dec.{leb, eqb}
 use lib.ListN.{length, drop}
+use Rattle.bits.specs.Choice.{if}
 use Rattle.bits.specs.Bits.{wordBits}
 use Rattle.bits.specs.Words.{words10}
 use Rattle.raster.specs.Layout.{syncOf, hdUnit}
 use Rattle.raster.specs.Table.{meant, rasterOk, lookedUp}
-use Rattle.raster.specs.Lines.{lineFacts}
-use Rattle.crc.specs.Crc.{ran, crWords}
+use Rattle.raster.specs.Lines.{lineOk, lineFacts}
+use Rattle.crc.specs.Crc.{registerOk, ran, crWords}
 use Rattle.cable.specs.Words.{scrambleWords, unscrambleWords, scrambleNext, unscrambleNext, codeRefusal, coded, filled}
 use Rattle.cable.specs.Channels.{paired}
 use Rattle.align.specs.Sync.{startsWith, syncRefusal, syncPlace, foundSync}
@@ -24,32 +25,45 @@ use Rattle.parts.specs.Parts.{part, any, laid, unlessRefused, laidUnless}
 use Rattle.plan.specs.Plan.{planOf}
 use Rattle.plan.specs.Refusal.{rowRefusal}
 use Rattle.packet.specs.Build as Packet
+use Rattle.packet.specs.Build.{buildable}
 use Rattle.packets.specs.declared.Channel.{Channel}
 use Rattle.packets.specs.Find.{findOf}
 use Rattle.packets.specs.Extract.{channelOf, packetsIn, extractRefusal, extracted}
 use Rattle.stream.specs.Words.{yBlank, cBlank}
 use Rattle.row.specs.declared.Carry.{Carry}
+use Rattle.row.specs.Before.{carryOk}
 use Rattle.row.specs.Row.{flagsOf, checked}
 use Rattle.repair.specs.Repair.{wipedIf}
 use Rattle.repair.specs.Answer.{correctRefusal, correctedY, correctedC, corrected}
-use Rattle.compose.specs.Compose.{yStream, cStream, buildRefusal, builtFor}
+use Rattle.compose.specs.Compose.{yStream, cStream, roomOk, buildRefusal, builtFor}
+use Rattle.rowlaws.specs.Lawful.{rightPacket}
 use Rattle.burst.specs.Stretch.{crcFlagged, BurstFlagged}
 use Rattle.tally.specs.declared.Verdict.the-variants.{NoSignal}
 use Rattle.tally.specs.Tally.{noCounts}
+use Rattle.stepper.specs.Step.{totalOf}
 use Rattle.session.specs.declared.Session.{Session}
 use Rattle.session.specs.declared.Ended.{Ended}
 use Rattle.session.specs.Session.{closed, inRange, beginRefusal, begun, feedRefusal, fed, ended}
 use Rattle.module.specs.Module.{Answer, moduleOf}
-use Rattle.module.specs.Runs.{Bench, fedOnce, fedAll, taken, started, answered, left}
+use Rattle.module.specs.Runs.{Bench, fedOnce, fedAll, started, answered, left}
 use Rattle.clean.specs.Signal.{CleanPasses, CleanPassesShort}
 use Rattle.struck.specs.Struck.{StruckFails}
+use Rattle.reader.specs.declared.Stage.{Stage}
+use Rattle.reader.specs.declared.Stage.the-variants.{TagCount, TagBytes, OptionsCount, RasterByte, WipeByte, WordCount, LowByte, HighByte, Stopped}
+use Rattle.reader.specs.declared.Reader.{Reader}
+use Rattle.reader.specs.Reader.{tagSizeOk, printable, optionsSizeOk, wipeOk, wordOf, wordOk, readOf, isCut}
+use Rattle.jobs.specs.declared.Kind.{Kind}
+use Rattle.jobs.specs.declared.Kind.the-variants.{Nothing, Done, BadFile}
+use Rattle.jobs.specs.declared.Desk.{Desk}
 use Rattle.jobs.specs.Desk as Desk
-use Rattle.files.specs.File.{refusedBy, contentsOf}
+use Rattle.files.specs.File.{outcomesOf}
 use Rattle.files.specs.Serving.{afterTake}
-use Rattle.files.specs.Promises.{inOne, NeverRefused, ServedAlike, PiecesServed, JobAlone}
+use Rattle.files.specs.Promises.{inOne, NeverRefused, ServedAlike, PiecesServed, BenchPrints, JobAlone, RefusedAlone}
 use Rattle.lineuses.specs.Laid.{LawfulLine, PlaceAfter}
 use Rattle.lineuses.specs.Struck.{total, nextChecked, TwoRows, Struck}
 use Rattle.sessionuses.specs.Uses.{Fits}
+use Rattle.rowrefusals.specs.Refusals.{Refused, rowsOk, partsOk, wordsOk}
+use Rattle.filerefusals.specs.Refusals.{pieceRefusal, countOk, ready, roomy}
 use Rattle.demands.specs.Numbers.{NumbersHold}
 
 -- ==== Demand 1
@@ -57,61 +71,125 @@ use Rattle.demands.specs.Numbers.{NumbersHold}
 -- ---- "Any words, lengths, line numbers and choices may be handed in. Each call does its work or returns one number of the refusal table,
 -- ---- and a refused call changes nothing that it was lent."
 
-pub record OneOf (n : ℕ) (numbers : List ℕ) : Type 0 where
-  pub listed : any (eqb n) numbers ≡ true
+-- a number of the table, and a test that fails where the number's condition holds
+pub record Test : Type 0 where
+  pub number : ℕ
+  pub ok : Bool
 
--- 0, done, or one of these numbers of the table
-abbrev pub Answers : List ℕ → ℕ → Type 0
-Answers refusals n = OneOf n (0 ∷ refusals)
+infix 70 _unless_
+abbrev pub _unless_ : ℕ → Bool → Test
+n unless ok = record { number = n; ok = ok }
+
+-- the number of the first test that fails, in this order; 0, done, where none does, and only there, for 0 is no test's number
+unfoldable pub firstFailed : List Test → ℕ
+firstFailed [] = 0
+firstFailed (t ∷ ts) = if (t .ok) (firstFailed ts) (t .number)
+
+-- this number is answered
+abbrev pub Answers : List Test → ℕ → Type 0
+Answers tests n = n ≡ firstFailed tests
 
 -- .. and where it is not 0, what was lent is afterwards as it was
-abbrev pub Keeps : {Lent : Type 0} → List ℕ → ℕ → Lent → Lent → Type 0
-Keeps refusals n lent after = Answers refusals n × ((n ≡ 0 → ⊥) → after ≡ lent)
+pub record Keeps {Lent : Type 0} (tests : List Test) (n : ℕ) (lent after : Lent) : Type 0 where
+  pub number : Answers tests n
+  pub kept : Refused n → after ≡ lent
 
--- the calls of the refusal table, each with its numbers in the order in which it gives them (of these 8 cannot arise: docs/DECISIONS.md)
+-- the tests of a byte of a bench file, by the stage at which it is read
+abbrev pub byteTests : Stage → Reader → ℕ → List Test
+byteTests TagCount r b = 9 unless countOk tagSizeOk r b ∷ []
+byteTests TagBytes r b = 9 unless printable b ∷ []
+byteTests OptionsCount r b = 9 unless countOk optionsSizeOk r b ∷ []
+byteTests RasterByte r b = []
+byteTests WipeByte r b = 9 unless wipeOk b ∷ 4 unless rasterOk (r .options .raster) ∷ []
+byteTests WordCount r b = []
+byteTests LowByte r b = []
+byteTests HighByte r b = 3 unless wordOk (wordOf (r .low) b) ∷ []
+byteTests Stopped r b = []
+
+-- The calls that can refuse, each with its tests, "Order where several apply: 7, 9, 4, 5, 2, 3, 6, 8, 1.": which number is answered, and that it is
+-- 0 where no condition holds. What is done then is the call's definition. 8 is nowhere: no word that is made is a reserved code. A call for the
+-- number alone (`row_refusal`, `find_refusal`, `check_refusal`) answers it as the call that it stands for does.
 pub record EachCall : Type 0 where
   pub scramble : (h : ℕ) (ws out : List ℕ)
-      → Keeps (3 ∷ 1 ∷ []) (coded (codeRefusal h ws (length out)) (scrambleNext h ws) .refusal) out
+      → Keeps (3 unless leb h 0x3ff ∷ 3 unless words10 ws ∷ 1 unless leb (length ws) (length out) ∷ [])
+      (coded (codeRefusal h ws (length out)) (scrambleNext h ws) .refusal) out
       (filled (codeRefusal h ws (length out)) (scrambleWords h ws) out)
   pub unscramble : (h : ℕ) (ws out : List ℕ)
-      → Keeps (3 ∷ 1 ∷ []) (coded (codeRefusal h ws (length out)) (unscrambleNext h ws) .refusal) out
+      → Keeps (3 unless leb h 0x3ff ∷ 3 unless words10 ws ∷ 1 unless leb (length ws) (length out) ∷ [])
+      (coded (codeRefusal h ws (length out)) (unscrambleNext h ws) .refusal) out
       (filled (codeRefusal h ws (length out)) (unscrambleWords h ws) out)
-  pub crc-run : (r : ℕ) (ws : List ℕ) → Answers (3 ∷ []) (ran r ws .refusal)
-  pub crc-words : (r : ℕ) → Answers (3 ∷ []) (crWords r .refusal)
-  pub find-sync : (ws : List ℕ) → Answers (3 ∷ []) (syncRefusal (foundSync ws))
-  pub raster-of : (code : ℕ) → Answers (4 ∷ []) (lookedUp code .refusal)
-  pub line-facts : (code line : ℕ) → Answers (4 ∷ 5 ∷ []) (lineFacts code line .refusal)
-  pub plan-of : (code line : ℕ) → Answers (4 ∷ 5 ∷ []) (planOf code line .refusal)
-  pub read-xyz : (w : ℕ) → Answers (3 ∷ []) (told (readXyz w) .refusal)
-  pub line-words : (code line : ℕ) → Answers (4 ∷ 5 ∷ []) (lineWords code line .refusal)
-  pub read-line : (code ln0 ln1 : ℕ) → Answers (4 ∷ 3 ∷ []) (lineRead code ln0 ln1 .refusal)
+  pub crc-run : (r : ℕ) (ws : List ℕ) → Answers (3 unless (registerOk r && words10 ws) ∷ []) (ran r ws .refusal)
+  pub crc-words : (r : ℕ) → Answers (3 unless registerOk r ∷ []) (crWords r .refusal)
+  pub find-sync : (ws : List ℕ) → Answers (3 unless words10 ws ∷ []) (syncRefusal (foundSync ws))
+  pub raster-of : (code : ℕ) → Answers (4 unless rasterOk code ∷ []) (lookedUp code .refusal)
+  pub line-facts : (code line : ℕ) → Answers (4 unless rasterOk code ∷ 5 unless lineOk code line ∷ []) (lineFacts code line .refusal)
+  pub plan-of : (code line : ℕ) → Answers (4 unless rasterOk code ∷ 5 unless lineOk code line ∷ []) (planOf code line .refusal)
+  pub read-xyz : (w : ℕ) → Answers (3 unless leb w 0x3ff ∷ []) (told (readXyz w) .refusal)
+  pub line-words : (code line : ℕ) → Answers (4 unless rasterOk code ∷ 5 unless lineOk code line ∷ []) (lineWords code line .refusal)
+  pub read-line : (code ln0 ln1 : ℕ) → Answers (4 unless rasterOk code ∷ 3 unless (leb ln0 0x3ff && leb ln1 0x3ff) ∷ []) (lineRead code ln0 ln1 .refusal)
   pub build-packet : (did sdid : ℕ) (user out : List ℕ)
-      → Keeps (3 ∷ 6 ∷ 8 ∷ 1 ∷ []) (Packet.built did sdid user (length out) .refusal) out
+      → Keeps (3 unless words10 user ∷ 6 unless buildable did user ∷ 1 unless leb (length user + 7) (length out) ∷ [])
+      (Packet.built did sdid user (length out) .refusal) out
       (laidUnless (Packet.buildRefusal did sdid user (length out)) (Packet.packetOf did sdid user) out)
-  pub find-packet : (code line : ℕ) (y c : List ℕ) → Answers (4 ∷ 5 ∷ 2 ∷ 3 ∷ []) (rowRefusal code line y c)
+  -- find answers a part, an empty one where it is refused
+  pub find-packet : (code line did sdid : ℕ) (y c : List ℕ)
+      → Answers (4 unless rasterOk code ∷ 5 unless lineOk code line ∷ 2 unless rowsOk code y c ∷ 3 unless wordsOk y c ∷ []) (rowRefusal code line y c)
+      × (Refused (rowRefusal code line y c) → findOf code line did sdid y c ≡ [])
   pub extract : (code line : ℕ) (channel : Channel) (y c out : List ℕ)
-      → Keeps (4 ∷ 5 ∷ 2 ∷ 3 ∷ 1 ∷ []) (extracted code line channel y c (length out) .refusal) out
-      (laidUnless (extractRefusal code line channel y c (length out)) (packetsIn code line (channelOf channel y c)) out)
-  pub check-row : (code line : ℕ) (carry : Carry) (y c : List ℕ) → Answers (4 ∷ 5 ∷ 2 ∷ 3 ∷ []) (checked code line carry y c .refusal)
+      → let packets = packetsIn code line (channelOf channel y c) in
+      Keeps
+      (4 unless rasterOk code
+      ∷ 5 unless lineOk code line
+      ∷ 2 unless rowsOk code y c
+      ∷ 3 unless wordsOk y c
+      ∷ 1 unless leb (length packets) (length out)
+      ∷ [])
+      (extracted code line channel y c (length out) .refusal) out (laidUnless (extractRefusal code line channel y c (length out)) packets out)
+  pub check-row : (code line : ℕ) (carry : Carry) (y c : List ℕ)
+      → Answers
+      (4 unless rasterOk code ∷ 5 unless lineOk code line ∷ 2 unless rowsOk code y c ∷ 3 unless (wordsOk y c && carryOk carry) ∷ [])
+      (checked code line carry y c .refusal)
   pub correct-row : (code line : ℕ) (carry : Carry) (wipe : Bool) (y c : List ℕ)
       → let n = correctRefusal code line carry wipe y c in
-      Keeps {Lent = List ℕ × List ℕ} (4 ∷ 5 ∷ 2 ∷ 3 ∷ 8 ∷ []) (corrected code line carry wipe y c .refusal) (y, c)
+      Keeps {Lent = List ℕ × List ℕ}
+      (4 unless rasterOk code ∷ 5 unless lineOk code line ∷ 2 unless rowsOk code y c ∷ 3 unless (wordsOk y c && carryOk carry) ∷ [])
+      (corrected code line carry wipe y c .refusal) (y, c)
       (unlessRefused n (correctedY (planOf code line) carry wipe y) y, unlessRefused n (correctedC (planOf code line) carry wipe c) c)
   pub build-row : (code line : ℕ) (carry : Carry) (yActive cActive yLaid cLaid y c : List ℕ)
-      → let n = buildRefusal code line carry yActive cActive yLaid cLaid (length y) (length c) in
-      Keeps {Lent = List ℕ × List ℕ} (4 ∷ 5 ∷ 2 ∷ 3 ∷ 8 ∷ 1 ∷ []) (builtFor n yActive cActive .refusal) (y, c)
-      (laidUnless n (yStream (planOf code line) carry yActive yLaid) y, laidUnless n (cStream (planOf code line) carry cActive cLaid) c)
-  pub begin : (s : Session) (code : ℕ) → Keeps (7 ∷ 4 ∷ []) (begun s code .refusal) s (begun s code .session)
-  pub feed : (ws : List ℕ) (x : Bench) → Keeps (7 ∷ 3 ∷ 1 ∷ []) (fed (x .session) ws (x .y) (x .c) .refusal) x (fedOnce ws x)
-  pub end : (s : Session) → Keeps (7 ∷ []) (ended s .refusal) s (ended s .session)
-  pub take : (bs : List ℕ) (x : Desk.Standing) → Keeps (7 ∷ 1 ∷ []) (Desk.taken (x .desk) bs (x .y) (x .c) .refusal) x (afterTake bs x)
+      → let p = planOf code line in
+      let n = buildRefusal code line carry yActive cActive yLaid cLaid (length y) (length c) in
+      Keeps {Lent = List ℕ × List ℕ}
+      (4 unless rasterOk code
+      ∷ 5 unless lineOk code line
+      ∷ 2 unless partsOk p yActive cActive yLaid cLaid
+      ∷ 3 unless (wordsOk yActive yLaid && (wordsOk cActive cLaid && carryOk carry))
+      ∷ 1 unless roomOk p (length y) (length c)
+      ∷ [])
+      (builtFor n yActive cActive .refusal) (y, c)
+      (laidUnless n (yStream p carry yActive yLaid) y, laidUnless n (cStream p carry cActive cLaid) c)
+  pub begin : (s : Session) (code : ℕ)
+      → Keeps (7 unless (not (s .running) && inRange s) ∷ 4 unless rasterOk code ∷ []) (begun s code .refusal) s (begun s code .session)
+  pub feed : (ws : List ℕ) (x : Bench)
+      → let s = x .session in
+      let total = totalOf (s .raster) in
+      Keeps
+      (7 unless (s .running && inRange s) ∷ 3 unless words10 ws ∷ 1 unless (leb total (length (x .y)) && leb total (length (x .c))) ∷ [])
+      (fed s ws (x .y) (x .c) .refusal) x (fedOnce ws x)
+  pub end : (s : Session) → Keeps (7 unless (s .running && inRange s) ∷ []) (ended s .refusal) s (ended s .session)
+  pub read : (r : Reader) (b : ℕ) → Answers (byteTests (r .stage) r b) (pieceRefusal (readOf r b .piece))
+  pub take : (bs : List ℕ) (x : Desk.Standing)
+      → Keeps (7 unless ready (x .desk) ∷ 1 unless roomy (x .y) (x .c) ∷ []) (Desk.taken (x .desk) bs (x .y) (x .c) .refusal) x (afterTake bs x)
+  -- finish answers an outcome: "9: bench file: .. cut short", or nothing
+  pub finish : (d : Desk) → Desk.finished d ≡ if (isCut (d .reader)) (Desk.badFile 9) Desk.nothing
 
--- .. and of a bench file that is refused, the number after `bad file`
-abbrev pub badFileNumbers : List ℕ
-badFileNumbers = 9 ∷ 4 ∷ 3 ∷ []
+-- .. and of a bench file each outcome is a job that is done, or `bad file` with 9, 4 or 3
+abbrev pub outcomeOk : Kind → Bool
+outcomeOk Nothing = false
+outcomeOk Done = true
+outcomeOk (BadFile n) = any (eqb n) (9 ∷ 4 ∷ 3 ∷ [])
 
-unfoldable pub BadFile : Type 0
-BadFile = (bs : List ℕ) (n : ℕ) → contentsOf bs .ending ≡ refusedBy n → OneOf n badFileNumbers
+unfoldable pub EachOutcome : Type 0
+EachOutcome = (bs : List ℕ) → any (λ o. not (outcomeOk (o .kind))) (outcomesOf bs) ≡ false
 
 -- (the table's 7) ".. which no session answered by a call here has"
 pub record InRange : Type 0 where
@@ -119,6 +197,7 @@ pub record InRange : Type 0 where
   pub begin : (s : Session) (code : ℕ) → inRange s ≡ true → inRange (begun s code .session) ≡ true
   pub feed : (s : Session) (ws y c : List ℕ) → inRange s ≡ true → inRange (fed s ws y c .session) ≡ true
   pub end : (s : Session) → inRange s ≡ true → inRange (ended s .session) ≡ true
+  pub take : (d : Desk) (bs y c : List ℕ) → inRange (d .session) ≡ true → inRange (Desk.taken d bs y c .desk .session) ≡ true
 
 -- ---- "A module's verdict depends only on its own words and its chosen raster; what the module before left in the bench or its buffers
 -- ---- counts for nothing."
@@ -148,10 +227,14 @@ Between x = (x .session .running ≡ false) × (inRange (x .session) ≡ true)
 unfoldable pub LeftBetween : Type 0
 LeftBetween = (code : ℕ) (feeds : List (List ℕ)) (x : Bench) → inRange (x .session) ≡ true → Between (left code feeds x)
 
--- where feeds were refused on the way, the words are those of the feeds that answered 0
+-- the words of the feeds in which none is above 3FF, in order
+abbrev pub sound : List (List ℕ) → List ℕ
+sound feeds = flatMap (λ ws. if (words10 ws) ws []) feeds
+
+-- where feeds were refused on the way, the words are those of the others: again a matter of raster and words alone
 unfoldable pub TakenAlone : Type 0
 TakenAlone = (code : ℕ) (feeds : List (List ℕ)) (x : Bench) → rasterOk code ≡ true → Between x → Fits code (x .y) (x .c)
-    → answered code feeds x ≡ endOf (moduleOf code (taken feeds (started code x)))
+    → answered code feeds x ≡ endOf (moduleOf code (sound feeds))
 
 -- and a module without words, after whatever module: NO SIGNAL, no row and no fault
 unfoldable pub NothingLeft : Type 0
@@ -159,10 +242,11 @@ NothingLeft = (code : ℕ) (x : Bench) → rasterOk code ≡ true → Between x
     → answered code [] x ≡ endOf (record { raster = meant code; counts = noCounts; verdict = NoSignal })
 
 -- In the bench file: no call of a desk is refused on the way; in whatever pieces the bytes arrive, and whatever session and buffers were there
--- before, the same is told, the file's own outcomes; and a job's line depends on that job's bytes alone.
+-- before, the same is told and printed, the file's own outcomes; a job's line depends on that job's bytes alone, and what stands after a
+-- refusal changes nothing.
 pub record DemandOne : Type 0 where
   pub calls : EachCall
-  pub bad-file : BadFile
+  pub outcomes : EachOutcome
   pub in-range : InRange
   pub own : VerdictOwn
   pub same : SameVerdict
@@ -172,7 +256,9 @@ pub record DemandOne : Type 0 where
   pub never-refused : NeverRefused
   pub served-alike : ServedAlike
   pub pieces-served : PiecesServed
+  pub bench-prints : BenchPrints
   pub job-alone : JobAlone
+  pub refused-alone : RefusedAlone
 
 -- ==== Demand 2
 
@@ -208,6 +294,10 @@ builtPacket did sdid user out =
     part 0 (Packet.built did sdid user (length out) .words)
     (laidUnless (Packet.buildRefusal did sdid user (length out)) (Packet.packetOf did sdid user) out)
 
+-- it is whole and has a right checksum: one of the packets that a line may be built from (`LawfulLine`)
+unfoldable pub PacketRight : Type 0
+PacketRight = (did sdid : ℕ) (user out : List ℕ) → Packet.built did sdid user (length out) .refusal ≡ 0 → rightPacket (builtPacket did sdid user out) ≡ true
+
 -- "A packet is found by its DID and SDID bytes.": one that is built and laid into the blanking of Y, after whole packets of which none is
 -- wanted or at the start, is found, whatever the other words of the row are
 unfoldable pub PacketFound : Type 0
@@ -219,10 +309,24 @@ PacketFound = (code line did sdid at : ℕ) (user out y c : List ℕ) (packets :
     → PlaceAfter code line did sdid user y at packets
     → findOf code line did sdid (laid at (builtPacket did sdid user out) y) c ≡ builtPacket did sdid user out
 
--- ---- "Unscrambling what was scrambled from the same start gives back the words.", and both go on from the same history
+-- ---- "Unscrambling what was scrambled from the same start gives back the words.": the second call is accepted where the first is, and both
+-- ---- go on from the same history
 unfoldable pub UnscrambledBack : Type 0
 UnscrambledBack = (h : ℕ) (ws : List ℕ) → words10 ws ≡ true
-    → (unscrambleWords h (scrambleWords h ws) ≡ ws) × (unscrambleNext h (scrambleWords h ws) ≡ scrambleNext h ws)
+    → ((room : ℕ) → codeRefusal h (scrambleWords h ws) room ≡ codeRefusal h ws room)
+    × (unscrambleWords h (scrambleWords h ws) ≡ ws)
+    × (unscrambleNext h (scrambleWords h ws) ≡ scrambleNext h ws)
+
+-- words after words: from the history that the first call answers, a second goes on as one call of all the words does
+abbrev pub GoesOn : (ℕ → List ℕ → List ℕ) → (ℕ → List ℕ → ℕ) → Type 0
+GoesOn words next = (h : ℕ) (ws vs : List ℕ)
+    → (next h ws ≤ 0x3ff)
+    × (words h (ws ++ vs) ≡ words h ws ++ words (next h ws) vs)
+    × (next h (ws ++ vs) ≡ next (next h ws) vs)
+
+pub record CallsCut : Type 0 where
+  pub scramble : GoesOn scrambleWords scrambleNext
+  pub unscramble : GoesOn unscrambleWords unscrambleNext
 
 -- ---- "A line built by us from lawful words and whole packets, checked after the same line before it, shows no flag."
 
@@ -254,15 +358,19 @@ CorrectedFlags = (code line : ℕ) (carry : Carry) (wipe : Bool) (y c : List ℕ
 unfoldable pub FeedsCut : Type 0
 FeedsCut = (feeds : List (List ℕ)) (x : Bench) → feedRefusal (x .session) (inOne feeds) (x .y) (x .c) ≡ 0 → fedAll feeds x ≡ fedOnce (inOne feeds) x
 
--- A clean signal, N + 2 such lines one after the other, passes.
+-- A clean signal passes: N + 2 lines built one after the other, the first without a carry, each other with that of the line before, of words and
+-- packets as above, in which no word after the 000 3FF 3FF is a reserved code; after bits without a sync, and before fewer than 53 bits, or fewer
+-- than 80 in which no sync ends but one that starts with them.
 pub record DemandTwo : Type 0 where
   pub numbers : NumbersHold
   pub eleventh : FromTheEleventh
   pub alignment : FirstSync
   pub xyz : XyzReadBack
   pub line : LineReadBack
-  pub packet : PacketFound
+  pub packet-right : PacketRight
+  pub packet-found : PacketFound
   pub unscrambled-back : UnscrambledBack
+  pub calls-cut : CallsCut
   pub built-no-flag : BuiltNoFlag
   pub corrected-flags : CorrectedFlags
   pub feeds-cut : FeedsCut

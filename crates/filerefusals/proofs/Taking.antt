@@ -16,7 +16,7 @@ use Rattle.filerefusals.specs.Refusals.{ready, roomy}
 use Rattle.filerefusals.proofs.Beyond.{take-beyond}
 
 -- words are read and the session is not open, as one test
-takeRefusal-by : (d : Desk) (y c : List ℕ) → takeRefusal d y c ≡ if (ready d) (if (roomy y c) 0 1) 7
+pub takeRefusal-by : (d : Desk) (y c : List ℕ) → takeRefusal d y c ≡ if (ready d) (if (roomy y c) 0 1) 7
 unfolding takeRefusal endRefusal
 takeRefusal-by d y c = go (wordsAt (d .reader .stage)) (d .session .running && inRange (d .session))
   where

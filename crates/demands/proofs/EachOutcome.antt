@@ -1,23 +1,28 @@
--- A file that is refused is refused with 9, 4 or 3.
-use mathlib.Core.Path.{subst}
-use mathlib.Core.List.{List, [], _∷_}
+-- Each outcome of a file is a job that is done, or `bad file` with 9, 4 or 3.
+use mathlib.Core.Path.{_≡_, refl, ap₂, _∙_}
+use mathlib.Core.Bool.{Bool, true, false, not, _||_}
+use mathlib.Core.List.{List, [], _∷_, map}
 use Prim.Native.Nat.{ℕ, zero, suc}
 use lib.ListN.{length}
 use Rattle.parts.specs.Parts.{any}
+use Rattle.parts.proofs.Comparing.{any-of-append}
 use Rattle.jobs.specs.declared.Job.{Job}
-use Rattle.files.specs.File.{Got, got, wrong, then, byteRead, countRead, tagBytesRead, tagRead, optionsOf, optionsRead, wordsRead, jobRead, Ending, whole, cutShort, refusedBy, Contents, contentsBy, readIn}
+use Rattle.jobs.specs.declared.Kind.the-variants.{BadFile}
+use Rattle.jobs.specs.declared.Outcome.{Outcome}
+use Rattle.jobs.specs.Desk.{done}
+use Rattle.files.specs.File.{Got, got, wrong, then, byteRead, countRead, tagBytesRead, tagRead, optionsOf, optionsRead, wordsRead, jobRead, Ending, whole, cutShort, refusedBy, Contents, contentsBy, readIn, contentsOf, lastOutcomes, outcomesOf}
 use Rattle.files.proofs.Reading.{Reads, of-got, of-cut, of-wrong, reads-then, reads-if}
-use Rattle.demands.specs.Demands.{OneOf, badFileNumbers, BadFile}
+use Rattle.demands.specs.Demands.{outcomeOk, EachOutcome}
 
 -- ---- a reading that is wrong with such a number, if it is wrong
 
 abbrev Fair : {A : Type 0} → Got A → Type 0
-Fair g = Reads (λ x rest. Unit) Unit (λ n. OneOf n badFileNumbers) g
+Fair g = Reads (λ x rest. Unit) Unit (λ n. outcomeOk (BadFile n) ≡ true) g
 
 fair-got : {A : Type 0} (x : A) (rest : List ℕ) → Fair (got x rest)
 fair-got x rest = of-got tt
 
-fair-wrong : {A : Type 0} (n : ℕ) → OneOf n badFileNumbers → Fair {A = A} (wrong n)
+fair-wrong : {A : Type 0} (n : ℕ) → outcomeOk (BadFile n) ≡ true → Fair {A = A} (wrong n)
 fair-wrong n p = of-wrong p
 
 fair-then : {A B : Type 0} (g : Got A) (f : A → List ℕ → Got B) → Fair g → ((x : A) (rest : List ℕ) → Fair (f x rest)) → Fair (then g f)
@@ -52,7 +57,7 @@ fair-job bs = search (fair, fair-count, fair-tag-bytes, fair-words) depth 20
 abbrev FairEnd : Ending → Type 0
 FairEnd whole = Unit
 FairEnd cutShort = Unit
-FairEnd (refusedBy n) = OneOf n badFileNumbers
+FairEnd (refusedBy n) = outcomeOk (BadFile n) ≡ true
 
 fair-contents : {g : Got Job} (others : List ℕ → Contents) → Fair g → ((rest : List ℕ) → FairEnd (others rest .ending)) → FairEnd (contentsBy g others .ending)
 fair-contents others (of-got {v} {rest} t) more = more rest
@@ -65,6 +70,25 @@ fair-file zero bs = tt
 fair-file (suc k) [] = tt
 fair-file (suc k) (b ∷ bs) = fair-contents (λ rest. readIn k rest) (fair-job (b ∷ bs)) (λ rest. fair-file k rest)
 
-pub bad-file : BadFile
-unfolding BadFile
-bad-file bs n e = subst FairEnd e (fair-file (length bs) bs)
+-- ---- its outcomes
+
+abbrev unfair : Outcome → Bool
+unfair o = not (outcomeOk (o .kind))
+
+fair-jobs : (js : List Job) → any unfair (map (λ j. done j) js) ≡ false
+unfolding any
+fair-jobs [] = refl
+fair-jobs (j ∷ js) = fair-jobs js
+
+fair-last : (e : Ending) → FairEnd e → any unfair (lastOutcomes e) ≡ false
+unfolding any
+fair-last whole p = refl
+fair-last cutShort p = refl
+fair-last (refusedBy n) p = rw p
+
+pub each-outcome : EachOutcome
+unfolding EachOutcome outcomesOf
+each-outcome bs =
+    let x = contentsOf bs in
+    any-of-append unfair (map (λ j. done j) (x .jobs)) (lastOutcomes (x .ending))
+    ∙ ap₂ (λ (a b : Bool). a || b) (fair-jobs (x .jobs)) (fair-last (x .ending) (fair-file (length bs) bs))

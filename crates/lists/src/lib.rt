@@ -50,9 +50,9 @@ fn take_words(args: &[u32], at: usize, words: &mut [u16]) -> usize
 // Answers the request whose numbers these are.
 pub fn answer(args: &[u32]) {
     match arg(args, 0) {
-        0x1 | 0x32 => of_list(args, 1),
+        0x1 | 0x8 | 0x32 => of_list(args, 1),
         0x21 | 0x23 => of_list(args, 2),
-        0x4 | 0x5 => one_list(args),
+        0x4 | 0x5 | 0x9 => one_list(args),
         0x6 | 0x7 => two_lists(args),
         0x30 | 0x31 => coded(args),
         _ => answers::answer(
@@ -66,21 +66,28 @@ pub fn answer(args: &[u32]) {
     end_line();
 }
 
-// Requests of a list and two numbers.
+// Requests of a list and the numbers after it.
 fn one_list(args: &[u32]) {
     let mut words = [0u16; 20000];
     let n = take_words(args, 1, &mut words);
-    let a = arg(args, n % 65536 + 2);
+    let a = arg(args, n % 65536 + 2) as usize;
     let b = arg(args, n % 65536 + 3);
+    let c = arg(args, n % 65536 + 4);
     if arg(args, 0) == 0x5 {
-        list(parts::part(&words[0..n], a as usize, b as usize));
+        list(parts::part(&words[0..n], a, b as usize));
         return;
     }
-    put_in(&mut words[0..n], a as usize, word(b));
+    put_in(arg(args, 0), &mut words[0..n], a, b, c);
 }
 
-fn put_in(buffer: &mut [u16], at: usize, w: u16) {
-    bits::put(buffer, at, w);
+// A word stored, 4, or laid so many times, 9.
+fn put_in(request: u32, buffer: &mut [u16], at: usize, b: u32, c: u32) {
+    if request == 0x4 {
+        bits::put(buffer, at, word(b));
+        list(buffer);
+        return;
+    }
+    parts::fill(buffer, at, b as usize, word(c));
     list(buffer);
 }
 
@@ -145,6 +152,7 @@ fn of_list(args: &[u32], at: usize) {
 fn of_words(request: u32, register: u32, words: &[u16]) {
     match request {
         0x1 => first(flag(bits::all_words(words))),
+        0x8 => first(flag(parts::any_reserved(words))),
         0x21 => run(register, words),
         0x23 => first(crc::step_words(register, words) as u64),
         _ => find_sync(words),

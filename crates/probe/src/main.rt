@@ -29,7 +29,10 @@ fn begin(args: &mut [u32], at: usize) -> usize {
 // Answers the request whose numbers these are.
 fn answer(args: &[u32]) {
     match arg(args, 0) {
+        0x58 | 0x59 | 0x66..=0x6b => channels::answer(args),
         0x70..=0x73 => sessions::answer(args),
+        0x74..=0x7a => steps::answer(args),
+        0x80..=0x83 => desks::answer(args),
         _ => rows::answer(args),
     }
 }

@@ -6,8 +6,10 @@ use answers::then;
 use packets::Channel;
 use row::Carry;
 use runs::byte;
+use runs::carry_at;
 use runs::take_runs;
 use runs::then_carry;
+use runs::then_rows;
 use runs::then_runs;
 
 // Answers the request whose numbers these are.
@@ -15,7 +17,7 @@ pub fn answer(args: &[u32]) {
     match arg(args, 0) {
         0x51 => rows(args, 5),
         0x52 => rows(args, 4),
-        0x60 | 0x63 => rows(args, 6),
+        0x60 | 0x63 | 0x6c => rows(args, 6),
         0x61 => rows(args, 7),
         0x62 => build(args),
         0x64 => rows(args, 3),
@@ -46,19 +48,12 @@ fn of_rows(args: &[u32], at: usize, y: &mut [u16], c: &mut [u16]) {
     match arg(args, 0) {
         0x51 => find(raster, line, byte(arg(args, 3)), byte(arg(args, 4)), y, c),
         0x52 => extract(args, at, y, c),
-        0x60 => check(raster, line, carry_of(args), y, c),
-        0x61 => correct(raster, line, carry_of(args), arg(args, 6) == 1, y, c),
-        0x63 => judge(raster, line, carry_of(args), y, c),
-        _ => first(plan::row_refusal(raster, line, y, c) as u64),
+        0x60 => check(raster, line, carry_at(args, 3), y, c),
+        0x61 => correct(raster, line, carry_at(args, 3), arg(args, 6) == 1, y, c),
+        0x63 => judge(raster, line, carry_at(args, 3), y, c),
+        0x64 => first(plan::row_refusal(raster, line, y, c) as u64),
+        _ => first(row::check_refusal(raster, line, carry_at(args, 3), y, c) as u64),
     }
-}
-
-// The carry at the fourth number of a request.
-fn carry_of(args: &[u32]) -> Carry {
-    if arg(args, 3) == 0 {
-        return Carry::Nothing;
-    }
-    Carry::Registers(arg(args, 4), arg(args, 5))
 }
 
 fn find<'a>(raster: u32, line: u32, did: u8, sdid: u8, y: &'a [u16], c: &'a [u16]) {
@@ -113,8 +108,7 @@ fn correct(raster: u32, line: u32, carry: Carry, wipe: bool, y: &mut [u16], c: &
     first(corrected.refusal as u64);
     let carry = corrected.carry;
     then_carry(carry);
-    then_runs(y);
-    then_runs(c);
+    then_rows(y, c);
 }
 
 // The four lists that a row is built from.
@@ -180,7 +174,7 @@ fn built(
     y: &mut [u16],
     c: &mut [u16],
 ) {
-    let carry = carry_of(args);
+    let carry = carry_at(args, 3);
     let made = compose::build(
         arg(args, 1),
         arg(args, 2),
@@ -195,8 +189,7 @@ fn built(
     first(made.refusal as u64);
     let carry = made.carry;
     then_carry(carry);
-    then_runs(y);
-    then_runs(c);
+    then_rows(y, c);
 }
 
 fn plan(raster: u32, line: u32) {

@@ -9,6 +9,7 @@ use answers::two;
 use answers::word;
 use row::Carry;
 use scan::Here;
+use scan::Scanned;
 
 // Where a request goes on after a list, and how many words the list has.
 pub struct Taken {
@@ -94,9 +95,23 @@ pub fn then_runs(words: &[u16]) {
     each_run(words);
 }
 
-fn first_runs(words: &[u16]) {
+pub fn first_runs(words: &[u16]) {
     first(run_count(words));
     each_run(words);
+}
+
+// The two rows of a request, after the first number of a line.
+pub fn then_rows(y: &[u16], c: &[u16]) {
+    then_runs(y);
+    then_runs(c);
+}
+
+// The carry at a place of a request.
+pub fn carry_at(args: &[u32], at: usize) -> Carry {
+    if arg(args, at) == 0 {
+        return Carry::Nothing;
+    }
+    Carry::Registers(arg(args, at % 65536 + 1), arg(args, at % 65536 + 2))
 }
 
 // A carry, after the first number of a line.
@@ -164,7 +179,7 @@ fn region(args: &[u32]) {
 fn of_region(request: u32, a: usize, b: usize, w: u16, words: &mut [u16]) {
     match request {
         0x53 => here_at(words, a),
-        0x54 => scan(words),
+        0x54 => scanned(scan::scan(words)),
         0x55 => first(scan::checksum(words) as u64),
         0x56 => wipe(words, a, b, w),
         _ => mend(words, a, b),
@@ -179,11 +194,11 @@ fn here_at(words: &[u16], at: usize) {
     }
 }
 
-fn scan(words: &[u16]) {
-    let scanned = scan::scan(words);
-    two(scanned.words as u64, flag(scanned.cut));
-    then(flag(scanned.wrong));
-    then(flag(scanned.unfit));
+// A scan, from the first number of a line.
+pub fn scanned(scan: Scanned) {
+    two(scan.words as u64, flag(scan.cut));
+    then(flag(scan.wrong));
+    then(flag(scan.unfit));
 }
 
 fn wipe(words: &mut [u16], from: usize, count: usize, blank: u16) {

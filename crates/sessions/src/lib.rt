@@ -10,12 +10,12 @@ use judging::Track;
 use recogniser::Place;
 use recogniser::Sight;
 use recogniser::Window;
-use row::Carry;
 use runs::Taken;
 use runs::byte;
+use runs::carry_at;
 use runs::take_runs;
 use runs::then_carry;
-use runs::then_runs;
+use runs::then_rows;
 use session::Ended;
 use session::Session;
 use stepper::State;
@@ -30,63 +30,83 @@ pub fn answer(args: &[u32]) {
         0x72 => end(args),
         _ => signal(args, arg(args, 2) as usize % 65536 + 3, 0),
     }
+    lists::end_line();
 }
 
-// The session whose numbers follow the request's.
-fn session_of(args: &[u32]) -> Session {
-    let window = Window {
-        last: arg(args, 4) as u64 + arg(args, 5) as u64 * 0x100000000,
-        ahead: byte(arg(args, 6)),
-        seen: arg(args, 7) == 1,
-    };
-    let place = Place {
-        pairs: arg(args, 8) as usize,
-        bit: byte(arg(args, 9)),
-    };
-    let sight = Sight { window, place };
-    let track = Track {
-        line: arg(args, 10),
-        carry: carry_of(args),
-    };
-    let counts = Counts {
-        rows: arg(args, 14),
-        faults: arg(args, 15),
-    };
+// The numbers of a session, which stand at a place of a request.
+pub fn session_at(args: &[u32], at: usize) -> Session {
+    let from = at % 65536;
+    let sight = sight_at(args, from + 3);
+    let track = track_at(args, from + 9);
+    let counts = counts_at(args, from + 13);
     let state = State {
         sight,
         track,
         counts,
     };
     Session {
-        running: arg(args, 1) == 1,
-        raster: arg(args, 2),
-        history: word(arg(args, 3)),
+        running: arg(args, from) == 1,
+        raster: arg(args, from + 1),
+        history: word(arg(args, from + 2)),
         state,
     }
 }
 
-fn carry_of(args: &[u32]) -> Carry {
-    if arg(args, 11) == 0 {
-        return Carry::Nothing;
-    }
-    Carry::Registers(arg(args, 12), arg(args, 13))
+pub fn last_at(args: &[u32], at: usize) -> u64 {
+    arg(args, at) as u64 + arg(args, at % 65536 + 1) as u64 * 0x100000000
 }
 
-fn then_session(session: Session) {
+pub fn sight_at(args: &[u32], at: usize) -> Sight {
+    let from = at % 65536;
+    let window = Window {
+        last: last_at(args, from),
+        ahead: byte(arg(args, from + 2)),
+        seen: arg(args, from + 3) == 1,
+    };
+    let place = Place {
+        pairs: arg(args, from + 4) as usize,
+        bit: byte(arg(args, from + 5)),
+    };
+    Sight { window, place }
+}
+
+pub fn track_at(args: &[u32], at: usize) -> Track {
+    let from = at % 65536;
+    Track {
+        line: arg(args, from),
+        carry: carry_at(args, from + 1),
+    }
+}
+
+pub fn counts_at(args: &[u32], at: usize) -> Counts {
+    Counts {
+        rows: arg(args, at),
+        faults: arg(args, at % 65536 + 1),
+    }
+}
+
+pub fn then_session(session: Session) {
     then(flag(session.running));
     then(session.raster as u64);
     then(session.history as u64);
     let state = session.state;
-    then_sight(state.sight);
+    then(low_half(state.sight));
+    rest_of_state(state);
+}
+
+// A state's first number, and those after it.
+pub fn low_half(sight: Sight) -> u64 {
+    sight.window.last % 0x100000000
+}
+
+pub fn rest_of_state(state: State) {
+    rest_of_sight(state.sight);
     let track = state.track;
-    then(track.line as u64);
-    let carry = track.carry;
-    then_carry(carry);
+    then_track(track);
     then_counts(state.counts);
 }
 
-fn then_sight(sight: Sight) {
-    then(sight.window.last % 0x100000000);
+pub fn rest_of_sight(sight: Sight) {
     then(sight.window.last / 0x100000000);
     then(sight.window.ahead as u64);
     then(flag(sight.window.seen));
@@ -94,19 +114,24 @@ fn then_sight(sight: Sight) {
     then(sight.place.bit as u64);
 }
 
-fn then_counts(counts: Counts) {
+pub fn then_track(track: Track) {
+    then(track.line as u64);
+    let carry = track.carry;
+    then_carry(carry);
+}
+
+pub fn then_counts(counts: Counts) {
     then(counts.rows as u64);
     then(counts.faults as u64);
 }
 
 fn begin(args: &[u32]) {
-    let begun = session_of(args).begin(arg(args, 16));
+    let begun = session_at(args, 1).begin(arg(args, 16));
     first(begun.refusal as u64);
     then_session(begun.session);
-    lists::end_line();
 }
 
-fn verdict_number(verdict: Verdict) -> u64 {
+pub fn verdict_number(verdict: Verdict) -> u64 {
     match verdict {
         Verdict::Refused => 0,
         Verdict::NoSignal => 1,
@@ -126,10 +151,9 @@ fn then_ended(ended: Ended) {
 }
 
 fn end(args: &[u32]) {
-    let ended = session_of(args).end();
+    let ended = session_at(args, 1).end();
     first(ended.refusal as u64);
     then_ended(ended);
-    lists::end_line();
 }
 
 // Lays the run of two words at a place of a request, which how many times precedes, from a place on.
@@ -160,8 +184,8 @@ fn lay_list(args: &[u32], at: usize, words: &mut [u16], from: usize) {
     }
 }
 
-// Copies the words of a signal, which stands at a place of a request.
-fn take_signal(args: &[u32], at: usize, words: &mut [u16]) -> Taken
+// Copies the words of a signal, which stands at a place of a request, as they are written there.
+fn take_written(args: &[u32], at: usize, words: &mut [u16]) -> Taken
     ensures { λ r. ⌜ r .count ≤ length (now (words .exit)) ⌝ }
 {
     let runs = arg(args, at % 65536 + 1) as usize % 65536;
@@ -192,18 +216,26 @@ fn taken(words: &[u16], next: usize, count: usize) -> Taken
     Taken { next, count }
 }
 
-// Requests of a signal, which stands at this place; it is scrambled, where that is asked, from this history.
+// Copies the words of a signal, which stands at a place of a request; they are scrambled, where that is asked, from this history.
+pub fn take_signal(args: &[u32], at: usize, history: u16, words: &mut [u16]) -> Taken
+    ensures { λ r. ⌜ r .count ≤ length (now (words .exit)) ⌝ }
+{
+    let taken = take_written(args, at, words);
+    if arg(args, at) == 0 {
+        return taken;
+    }
+    let mut written = [0u16; 40000];
+    parts::lay(&mut written, 0, words);
+    cable::scramble(history, parts::part(&written, 0, taken.count), words);
+    taken
+}
+
+// Requests of a signal, which stands at this place.
 fn signal(args: &[u32], at: usize, history: u16) {
     let mut words = [0u16; 40000];
-    let taken = take_signal(args, at, &mut words);
+    let taken = take_signal(args, at, history, &mut words);
     let count = taken.count;
-    if arg(args, at) == 0 {
-        with_rows(args, taken.next, &words[0..count]);
-        return;
-    }
-    let mut coded = [0u16; 40000];
-    cable::scramble(history, &words[0..count], &mut coded);
-    with_rows(args, taken.next, &coded[0..count]);
+    with_rows(args, taken.next, &words[0..count]);
 }
 
 // A feed, or a module, whose row buffers stand at this place of the request.
@@ -220,14 +252,8 @@ fn with_rows(args: &[u32], at: usize, words: &[u16]) {
     module(args, words, &mut y[0..n], &mut c[0..m]);
 }
 
-fn then_rows(y: &[u16], c: &[u16]) {
-    then_runs(y);
-    then_runs(c);
-    lists::end_line();
-}
-
 fn feed(args: &[u32], words: &[u16], y: &mut [u16], c: &mut [u16]) {
-    let fed = session_of(args).feed(words, y, c);
+    let fed = session_at(args, 1).feed(words, y, c);
     first(fed.refusal as u64);
     then_session(fed.session);
     then_rows(y, c);

@@ -2,8 +2,8 @@ use mathlib.Core.Path.{_≡_}
 use Prim.Native.Nat.{_-_}
 use lib.ListN.{length}
 use borrow.Author.Needs.{needs}
-use Rattle.sessions.proofs.take_signal.Statement.{statement}
-use Rattle.sessions.proofs.take_signal.Tie as tie
+use Rattle.sessions.proofs.take_written.Statement.{statement}
+use Rattle.sessions.proofs.take_written.Tie as tie
 
 abbrev Inv-loop : tie.InvT-loop
 Inv-loop args at words₀ runs next₀ count₀ k₀ words next count k = length words ≡ length words₀
@@ -80,8 +80,8 @@ same-length c = search needs
 returns : tie.Need-returns Inv-loop μ-loop
 returns c = search needs
 
-pub take-signal-spec : {M : Type 1} → statement M
-take-signal-spec =
+pub take-written-spec : {M : Type 1} → statement M
+take-written-spec =
     tie.close
     (tie.spec
     Inv-loop

@@ -1,7 +1,7 @@
 -- Laws of the first place of a pattern and of the sync.
 use mathlib.Core.Path.{_≡_, refl, sym, ap, subst, _∙_}
 use mathlib.Core.Bool.{Bool, true, false}
-use mathlib.Core.List.{List, [], _∷_, _++_, append-assoc}
+use mathlib.Core.List.{List, [], _∷_, _++_}
 use mathlib.Core.Option.{Option, none, some}
 use Prim.Native.Nat.{ℕ, zero, suc, _+_, _-_, _*_, _/_, _%_, _≤_, _<_}
 use native.Mathlib.Omega.{arith}
@@ -11,12 +11,10 @@ use lib.Seq.{drop-append-le, getD-append-add, getD-drop}
 use Rattle.bits.specs.Choice.{if}
 use Rattle.bits.specs.Bits.{_⊕_, bits, wordBits, odd}
 use Rattle.bits.specs.Words.{words10}
+use Rattle.bits.proofs.Choice.{false-not-true}
 use Rattle.raster.specs.Layout.{syncOf}
 use Rattle.align.specs.declared.Sync.the-variants.{Refused, At}
 use Rattle.align.specs.Sync.{startsWith, later, firstPlace, firstSync, syncRefusal, syncPlace, syncAt, foundSync}
-
-clash : {A : Type 0} → false ≡ true → A
-clash h = let z : _≡_ {A = ℕ} 0 1 = cc in absurd (omega arith)
 
 pub no-place : {A : Type 0} {n : ℕ} → none ≡ some n → A
 no-place h = let z : _≡_ {A = ℕ} 0 1 = cc in absurd (omega arith)
@@ -27,10 +25,10 @@ no-place h = let z : _≡_ {A = ℕ} 0 1 = cc in absurd (omega arith)
 pub starts-takes : (ps bs : List Bool) → startsWith ps bs ≡ true → (take (length ps) bs ≡ ps) × (length ps ≤ length bs)
 unfolding startsWith
 starts-takes [] bs h = (refl, omega arith)
-starts-takes (p ∷ ps) [] h = clash h
+starts-takes (p ∷ ps) [] h = absurd (false-not-true h)
 starts-takes (true ∷ ps) (true ∷ bs) h = let r = starts-takes ps bs h in (ap (λ (l : List Bool). true ∷ l) (r .0), omega arith)
-starts-takes (true ∷ ps) (false ∷ bs) h = clash h
-starts-takes (false ∷ ps) (true ∷ bs) h = clash h
+starts-takes (true ∷ ps) (false ∷ bs) h = absurd (false-not-true h)
+starts-takes (false ∷ ps) (true ∷ bs) h = absurd (false-not-true h)
 starts-takes (false ∷ ps) (false ∷ bs) h = let r = starts-takes ps bs h in (ap (λ (l : List Bool). false ∷ l) (r .0), omega arith)
 
 -- a pattern starts with itself, whatever follows
@@ -51,11 +49,11 @@ starts-decided (p ∷ ps) (x ∷ xs) ys h = ap (if (p ⊕ x) false) (starts-deci
 pub starts-at : (ps bs : List Bool) → startsWith ps bs ≡ true → (j : ℕ) → j < length ps → getD bs j false ≡ getD ps j false
 unfolding startsWith
 starts-at [] bs h j l = absurd (omega arith)
-starts-at (p ∷ ps) [] h j l = clash h
+starts-at (p ∷ ps) [] h j l = absurd (false-not-true h)
 starts-at (true ∷ ps) (true ∷ bs) h zero l = refl
 starts-at (true ∷ ps) (true ∷ bs) h (suc j) l = starts-at ps bs h j (omega arith)
-starts-at (true ∷ ps) (false ∷ bs) h j l = clash h
-starts-at (false ∷ ps) (true ∷ bs) h j l = clash h
+starts-at (true ∷ ps) (false ∷ bs) h j l = absurd (false-not-true h)
+starts-at (false ∷ ps) (true ∷ bs) h j l = absurd (false-not-true h)
 starts-at (false ∷ ps) (false ∷ bs) h zero l = refl
 starts-at (false ∷ ps) (false ∷ bs) h (suc j) l = starts-at ps bs h j (omega arith)
 
@@ -148,14 +146,6 @@ none-means-none p ps [] h (suc k) = refl
 none-means-none p ps (b ∷ bs) h zero = none-cons (p ∷ ps) b bs h .0
 none-means-none p ps (b ∷ bs) h (suc k) = none-means-none p ps bs (none-cons (p ∷ ps) b bs h .1) k
 
--- a place at which they start with it, and before which they do not, is the first
-pub first-unique : (ps bs : List Bool) (n : ℕ) → n < length bs → startsWith ps (drop n bs) ≡ true
-    → ((k : ℕ) → k < n → startsWith ps (drop k bs) ≡ false) → firstPlace ps bs ≡ some n
-first-unique ps [] n l s f = absurd (omega arith)
-first-unique ps (b ∷ bs) zero l s f = first-here ps b bs s
-first-unique ps (b ∷ bs) (suc n) l s f =
-    first-there ps b bs (f 0 (omega arith)) ∙ ap later (first-unique ps bs n (omega arith) s (λ k h. f (suc k) (omega arith)))
-
 -- a place found stays when bits follow
 pub first-of-append : (ps xs ys : List Bool) (n : ℕ) → firstPlace ps xs ≡ some n → firstPlace ps (xs ++ ys) ≡ some n
 first-of-append ps xs ys =
@@ -173,25 +163,13 @@ first-before-append p ps xs ys n l h = go (firstPlace (p ∷ ps) xs) refl
   where
     go : (o : Option ℕ) → firstPlace (p ∷ ps) xs ≡ o → firstPlace (p ∷ ps) xs ≡ some n
     go none e =
-        clash
+        absurd
+        (false-not-true
         (sym (none-means-none p ps xs e n)
         ∙ sym (starts-decided (p ∷ ps) (drop n xs) ys (omega (arith, length-drop n xs)))
         ∙ ap (startsWith (p ∷ ps)) (sym (drop-append-le n xs ys (omega arith)))
-        ∙ first-starts (p ∷ ps) (xs ++ ys) n h .0)
+        ∙ first-starts (p ∷ ps) (xs ++ ys) n h .0))
     go (some m) e = e ∙ sym (first-of-append (p ∷ ps) xs ys m e) ∙ h
-
--- where nothing is found, only the bits that could still begin a pattern count for what follows
-pub first-of-append-none : (ps xs zs ys : List Bool) → length ps ≤ suc (length zs) → firstPlace ps (xs ++ zs) ≡ none
-    → firstPlace ps (xs ++ (zs ++ ys)) ≡ after (length xs) (firstPlace ps (zs ++ ys))
-first-of-append-none ps [] zs ys l h = sym (after-zero (firstPlace ps (zs ++ ys)))
-first-of-append-none ps (x ∷ xs) zs ys l h =
-    let n = none-cons ps x (xs ++ zs) h in
-    first-there ps x (xs ++ (zs ++ ys))
-    (ap (startsWith ps) (sym (append-assoc (x ∷ xs) zs ys))
-    ∙ starts-decided ps (x ∷ xs ++ zs) ys (omega (arith, length-append xs zs))
-    ∙ n .0)
-    ∙ ap later (first-of-append-none ps xs zs ys l (n .1))
-    ∙ later-after (length xs) (firstPlace ps (zs ++ ys))
 
 -- a pattern that starts with a one does not start in zeros
 pub first-after-zeros : (ps : List Bool) (n : ℕ) (bs : List Bool)
@@ -256,8 +234,9 @@ syncs-apart unit bs p q u l s t = near (decLt q (p + 3 * unit)) (decLt q (p + un
     near : Dec (q < p + 3 * unit) → Dec (q < p + unit) → p + 3 * unit ≤ q
     near (no g) d = omega arith
     near (yes h) (yes k) =
-        clash (sym (sync-zeros unit bs p s (p + unit) (omega arith) (omega arith)) ∙ sync-ones unit bs q t (p + unit) (omega arith) (omega arith))
-    near (yes h) (no g) = clash (sym (sync-zeros unit bs p s q (omega arith) h) ∙ sync-ones unit bs q t q (omega arith) (omega arith))
+        absurd
+        (false-not-true (sym (sync-zeros unit bs p s (p + unit) (omega arith) (omega arith)) ∙ sync-ones unit bs q t (p + unit) (omega arith) (omega arith)))
+    near (yes h) (no g) = absurd (false-not-true (sym (sync-zeros unit bs p s q (omega arith) h) ∙ sync-ones unit bs q t q (omega arith) (omega arith)))
 
 -- ---- syncAt and foundSync
 

@@ -16,7 +16,7 @@ pub enum Sync {
 }
 
 // The last sixty bits as a number, oldest lowest, when they are a sync: 20 ones, then 40 zeros.
-const SYNC: u64 = 0xfffff;
+pub const SYNC: u64 = 0xfffff;
 
 // A word's search: the bit at which a sync ends, or the last sixty bits to go on with.
 enum Searched {

@@ -8,10 +8,10 @@ ghost use Prim.Native.Nat.{_≤_};
 ghost use lib.ListN.{length};
 
 // How many bytes were served; more: the file is not refused and the output is not closed.
-pub struct Served {
-    pub bytes: usize,
-    pub more: bool,
-    pub desk: Desk,
+struct Served {
+    bytes: usize,
+    more: bool,
+    desk: Desk,
 }
 
 fn is_refused(kind: Kind) -> bool {
@@ -105,8 +105,8 @@ fn run(input: &mut [u8], y: &mut [u16], c: &mut [u16]) -> Desk {
 
 fn main() {
     let mut input = [0u8; 65536];
-    let mut y = [0u16; 4125];
-    let mut c = [0u16; 4125];
+    let mut y = [0u16; Desk::LONGEST];
+    let mut c = [0u16; Desk::LONGEST];
     let desk = run(&mut input, &mut y, &mut c);
     print(desk.finish());
 }

@@ -1,27 +1,23 @@
 -- A fact of each number below a bound, by one computed test.
 use mathlib.Core.Path.{_≡_, subst}
-use mathlib.Core.Bool.{Bool, true, false}
+use mathlib.Core.Bool.{Bool, true, false, _&&_}
 use Prim.Native.Nat.{ℕ, zero, suc, _<_}
 use native.Mathlib.Omega.{arith}
 use native.Mathlib.Decide.{decLt}
 use lib.Dec.{T}
 
-abbrev pub both : Bool → Bool → Bool
-both true b = b
-both false b = false
-
-pub both-left : (a b : Bool) → T (both a b) → T a
+pub both-left : (a b : Bool) → T (a && b) → T a
 both-left true b t = tt
 both-left false b t = t
 
-pub both-right : (a b : Bool) → T (both a b) → T b
+pub both-right : (a b : Bool) → T (a && b) → T b
 both-right true b t = t
 both-right false b t = absurd t
 
 -- the test passes at each number below n
 abbrev pub all : (ℕ → Bool) → ℕ → Bool
 all f zero = true
-all f (suc n) = both (f n) (all f n)
+all f (suc n) = f n && all f n
 
 pub below : (f : ℕ → Bool) (n : ℕ) → T (all f n) → (k : ℕ) → k < n → T (f k)
 below f zero t k h = absurd (omega arith)
@@ -33,7 +29,7 @@ below f (suc n) t k h = go (λ l. below f n (both-right (f n) (all f n) t) k l) 
 
 -- a test that passes at both bools passes at each
 abbrev pub every : (Bool → Bool) → Bool
-every t = both (t true) (t false)
+every t = t true && t false
 
 pub every-at : (t : Bool → Bool) → T (every t) → (b : Bool) → T (t b)
 every-at t p true = both-left (t true) (t false) p

@@ -1,25 +1,30 @@
 -- Laws of Bool and of a case by a test.
-use mathlib.Core.Path.{_≡_, refl}
-use mathlib.Core.Bool.{Bool, true, false, _&&_}
-use Prim.Native.Nat.{ℕ, _≤_}
+use mathlib.Core.Path.{_≡_, refl, sym}
+use mathlib.Core.Bool.{Bool, true, false, _&&_, _||_, false≢true}
+use Prim.Native.Nat.{ℕ, suc, _≤_}
 use native.Mathlib.Omega.{arith}
 use mir.Val.{boolByte}
 use Rattle.bits.specs.Choice.{if}
 
 pub false-not-true : false ≡ true → ⊥
-false-not-true e = let z : _≡_ {A = ℕ} 0 1 = cc in omega arith
+false-not-true e = false≢true e
 
 pub and-true : (a b : Bool) → (a && b) ≡ true → (a ≡ true) × (b ≡ true)
 and-true true b e = (refl, e)
 and-true false b e = absurd (false-not-true e)
 
-pub and-false : (a : Bool) → (a && false) ≡ false
-and-false true = refl
-and-false false = refl
+pub or-none : (a b : Bool) → (a || b) ≡ false → (a ≡ false) × (b ≡ false)
+or-none true b e = absurd (false-not-true (sym e))
+or-none false b e = (refl, e)
 
 pub if-true : (b x : Bool) → if b x false ≡ true → (b ≡ true) × (x ≡ true)
 if-true true x e = (refl, e)
 if-true false x e = absurd (false-not-true e)
+
+-- no refusal, so the test held
+pub if-zero : (b : Bool) (x n : ℕ) → if b x (suc n) ≡ 0 → (b ≡ true) × (x ≡ 0)
+if-zero true x n e = (refl, e)
+if-zero false x n e = absurd (omega arith)
 
 -- a cast of a bool
 pub bool-le : (b : Bool) → boolByte b ≤ 1

@@ -1,12 +1,12 @@
 -- Laws of words10, reservedCode and nineOf.
-use mathlib.Core.Path.{_≡_, refl}
+use mathlib.Core.Path.{_≡_, refl, _∙_}
 use mathlib.Core.Bool.{Bool, true, false}
 use mathlib.Core.List.{List, [], _∷_, _++_}
 use Prim.Native.Nat.{ℕ, zero, suc, _+_, _/_, _%_, _≤_, _<_}
 use native.Mathlib.Omega.{arith}
 use native.Mathlib.Numerals.{add-one}
 use lib.Dec.{leb}
-use lib.ListN.{length, getD, drop}
+use lib.ListN.{length, getD, take, drop, set, replicate}
 use lib.Seq.{drop-cons, drop-length}
 use borrow.Author.Tests.{le-leb, lt-leb, leb-true}
 use Rattle.bits.specs.Choice.{if}
@@ -59,6 +59,33 @@ words10-append (w ∷ ws) vs h = go (leb w 0x3ff) h (words10-append ws vs)
         → if b (words10 (ws ++ vs)) false ≡ words10 vs
     go true e rest = rest e
     go false e rest = cc
+
+-- ---- words10 of what is put together and taken apart
+
+pub tens-append : (vs ws : List ℕ) → words10 vs ≡ true → words10 ws ≡ true → words10 (vs ++ ws) ≡ true
+tens-append vs ws v w = words10-append vs ws v ∙ w
+
+pub tens-take : (n : ℕ) (ws : List ℕ) → words10 ws ≡ true → words10 (take n ws) ≡ true
+unfolding words10
+tens-take zero ws t = refl
+tens-take (suc n) [] t = refl
+tens-take (suc n) (w ∷ ws) t = words10-cons w (take n ws) (words10-head w ws t) (tens-take n ws (words10-tail w ws t))
+
+pub tens-drop : (n : ℕ) (ws : List ℕ) → words10 ws ≡ true → words10 (drop n ws) ≡ true
+unfolding words10
+tens-drop zero ws t = t
+tens-drop (suc n) [] t = refl
+tens-drop (suc n) (w ∷ ws) t = tens-drop n ws (words10-tail w ws t)
+
+pub tens-set : (ws : List ℕ) (i w : ℕ) → w ≤ 0x3ff → words10 ws ≡ true → words10 (set ws i w) ≡ true
+tens-set [] i w h t = t
+tens-set (v ∷ ws) zero w h t = words10-cons w ws h (words10-tail v ws t)
+tens-set (v ∷ ws) (suc i) w h t = words10-cons v (set ws i w) (words10-head v ws t) (tens-set ws i w h (words10-tail v ws t))
+
+pub tens-blanks : (n blank : ℕ) → blank ≤ 0x3ff → words10 (replicate n blank) ≡ true
+unfolding words10
+tens-blanks zero blank h = refl
+tens-blanks (suc n) blank h = words10-cons blank (replicate n blank) h (tens-blanks n blank h)
 
 -- ---- nineOf: range, inverse, never reserved
 

@@ -1,21 +1,22 @@
 -- The two CRC flags of a stretch, channel by channel, and what it says that one is clear.
-use mathlib.Core.Path.{_≡_, refl, sym, ap, ap₂, _∙_}
-use mathlib.Core.Bool.{Bool, true, false, not, _||_}
+use mathlib.Core.Path.{_≡_, sym, ap, ap₂, _∙_}
+use mathlib.Core.Bool.{Bool, true, false, _||_}
 use mathlib.Core.List.{List, [], _∷_, _++_}
 use Prim.Native.Nat.{ℕ, _+_}
 use native.Mathlib.Omega.{arith}
 use lib.ListN.{length, take, drop}
 use lib.Seq.{take-at, drop-at, take-add, drop-drop}
+use borrow.Author.Tests.{not-false}
 use Rattle.bits.specs.Bits.{odd, number}
 use Rattle.bits.proofs.Bits.{number-shr, odd-digit}
-use Rattle.bits.proofs.Choice.{false-not-true}
+use Rattle.bits.proofs.Choice.{or-none}
 use Rattle.crc.specs.Crc.{crcStart, crcWords, cr0, cr1}
 use Rattle.crc.proofs.Steps.{crcWords-of-append}
 use Rattle.crc.proofs.Range.{crcWords-range}
 use Rattle.crc.proofs.Words.{crWords-done}
 use Rattle.parts.proofs.Comparing.{same-true}
 use Rattle.plan.specs.declared.Plan.{Plan}
-use Rattle.plan.proofs.Plans.{Fits}
+use Rattle.plan.specs.Fits.{Fits}
 use Rattle.stream.specs.declared.Faults.{Faults}
 use Rattle.stream.specs.Words.{checkWords, checksOf, coveredBy}
 use Rattle.stream.specs.Faults.{faultsOf}
@@ -38,23 +39,15 @@ crcFlagged-of-joined y c = crcFlagged-of-number _ _ _ _ _ _
 abbrev pub crcFault : Plan → List ℕ → Bool
 crcFault p ws = faultsOf p true (crcWords crcStart (take (p .places .count) ws)) (drop (p .places .count) ws) .crc
 
-or-false : (a b : Bool) → (a || b) ≡ false → (a ≡ false) × (b ≡ false)
-or-false true b e = absurd (false-not-true (sym e))
-or-false false b e = (refl, e)
-
 pub crcFlagged-clear : (p : Plan) (bs : List Bool) → crcFlagged (flagsIn p bs) ≡ false → (y : Bool) → crcFault p (channelWords y bs) ≡ false
 unfolding flagsOf
-crcFlagged-clear p bs e = go (or-false _ _ (sym (crcFlagged-of-joined _ _) ∙ e))
+crcFlagged-clear p bs e = go (or-none _ _ (sym (crcFlagged-of-joined _ _) ∙ e))
   where
     go : (crcFault p (channelWords true bs) ≡ false) × (crcFault p (channelWords false bs) ≡ false) → (y : Bool) → crcFault p (channelWords y bs) ≡ false
     go f true = f .0
     go f false = f .1
 
 -- ---- a channel with no CRC fault
-
-not-false : (b : Bool) → not b ≡ false → b ≡ true
-not-false true e = refl
-not-false false e = sym e
 
 crcFault-clear : (p : Plan) (r : ℕ) (ws : List ℕ) → faultsOf p true r ws .crc ≡ false → checksOf p ws ≡ checkWords p (coveredBy p r ws)
 unfolding faultsOf

@@ -1,6 +1,6 @@
 -- Laws of scrambled and unscrambled words, and of the next history.
 use mathlib.Core.Path.{_≡_, refl, sym, ap, _∙_}
-use mathlib.Core.Bool.{Bool, true, false}
+use mathlib.Core.Bool.{Bool, true}
 use mathlib.Core.List.{List, [], _∷_, _++_}
 use Prim.Native.Nat.{ℕ, zero, suc, _%_, _≤_}
 use native.Mathlib.Omega.{arith}
@@ -10,6 +10,7 @@ use lib.ListN.{length, drop}
 use borrow.Author.Tests.{leb-true}
 use Rattle.bits.specs.Bits.{bits, number, wordBits}
 use Rattle.bits.specs.Words.{words10}
+use Rattle.bits.proofs.Choice.{if-zero}
 use Rattle.bits.proofs.Bits.{number-bits}
 use Rattle.cable.specs.Bits.{scrambled, unscrambled, past}
 use Rattle.cable.specs.declared.Coded.{Coded}
@@ -69,10 +70,6 @@ unfolding unscrambleWords
 unscrambled-words-bits = words-bits unscrambling
 
 -- ---- the next history
-
-pub scramble-next-step : (h w : ℕ) (ws : List ℕ) → scrambleNext h (w ∷ ws) ≡ scrambleNext (scrambleWord h w) ws
-unfolding scrambleWord scrambleNext
-scramble-next-step = next-step scrambling
 
 pub unscramble-next-step : (h w : ℕ) (ws : List ℕ) → unscrambleNext h (w ∷ ws) ≡ unscrambleNext w ws
 unfolding unscrambleNext
@@ -156,10 +153,7 @@ code-refused {n} next result out h e = (coded-refused n next h ∙ ap (λ (k : �
 -- no refusal: history and words are of ten bits, and the output has the room
 pub code-refusal-none : (h : ℕ) (ws : List ℕ) (room : ℕ) → codeRefusal h ws room ≡ 0 → (h ≤ 0x3ff) × (words10 ws ≡ true) × (length ws ≤ room)
 unfolding codeRefusal
-code-refusal-none h ws room e = go (leb h 0x3ff) (words10 ws) (leb (length ws) room) refl refl refl
-  where
-    go : (a b c : Bool) → leb h 0x3ff ≡ a → words10 ws ≡ b → leb (length ws) room ≡ c → (h ≤ 0x3ff) × (words10 ws ≡ true) × (length ws ≤ room)
-    go true true true ea eb ec = (leb-true h 0x3ff ea, eb, leb-true (length ws) room ec)
-    go true true false ea eb ec = absurd (omega (arith, simp (ea, eb, ec) at e))
-    go true false c ea eb ec = absurd (omega (arith, simp (ea, eb) at e))
-    go false b c ea eb ec = absurd (omega (arith, simp ea at e))
+code-refusal-none h ws room e =
+    let a = if-zero (leb h 0x3ff) _ 2 e in
+    let b = if-zero (words10 ws) _ 2 (a .1) in
+    (leb-true h 0x3ff (a .0), b .0, leb-true (length ws) room (if-zero (leb (length ws) room) 0 0 (b .1) .0))

@@ -6,19 +6,19 @@ use Prim.Native.Nat.{ℕ, zero, suc, _+_, _-_, _^_, _≤_, _<_}
 use native.Mathlib.Omega.{arith}
 use lib.Dec.{eqb}
 use lib.ListN.{length, take, drop, replicate, length-append, length-replicate, take-append-drop}
-use borrow.Author.Tests.{not-true, not-false, eqb-true, leb-true}
+use borrow.Author.Tests.{not-true, eqb-true, leb-true}
 use Rattle.bits.specs.Words.{words10, reservedCode}
 use Rattle.bits.proofs.Choice.{and-true, false-not-true}
-use Rattle.bits.proofs.Words.{words10-append, words10-cons}
+use Rattle.bits.proofs.Words.{words10-cons, tens-append, tens-blanks}
 use Rattle.raster.specs.Lines.{lineRefusal}
-use Rattle.crc.specs.Crc.{crcWords, cr0, cr1}
+use Rattle.crc.specs.Crc.{registerOk, crcWords, cr0, cr1}
 use Rattle.crc.proofs.Range.{crcWords-range}
 use Rattle.crc.proofs.Words.{crWords-done, cr-range, cr-not-reserved}
 use Rattle.timing.specs.Line.{ln0Of, ln1Of}
 use Rattle.timing.specs.Xyz.{xyzOf}
 use Rattle.timing.proofs.Codes.{xyz-range, xyz-read-of-build}
 use Rattle.timing.proofs.Line.{line-range}
-use Rattle.parts.specs.Parts.{any}
+use Rattle.parts.specs.Parts.{any, endToEnd}
 use Rattle.parts.proofs.Comparing.{any-cons, same-true}
 use Rattle.scan.specs.Packet.{marker, marked}
 use Rattle.plan.specs.declared.Plan.{Plan}
@@ -26,7 +26,8 @@ use Rattle.plan.specs.Plan.{planOf}
 use Rattle.plan.proofs.Plans.{planOf-fits, planOf-plain, planOf-found}
 use Rattle.stream.specs.Words.{trs, lineWordsOf, headWords}
 use Rattle.compose.specs.Compose.{crcFor, blankingFor, streamOf, lengthsOk}
-use Rattle.rowlaws.specs.Lawful.{rightPacket, allRight, endToEnd}
+use Rattle.rowlaws.specs.Lawful.{rightPacket, allRight}
+use Rattle.rowlaws.proofs.Calm.{right-packet}
 use Rattle.recogniser.specs.Sight.{eavRead, isEav}
 use Rattle.clean.specs.Signal.{Channel, lawfulChannel}
 use Rattle.clean.proofs.Spaced.{Spaced, spaced-append}
@@ -50,7 +51,7 @@ spaced-blanks (suc n) blank h = word h (spaced-blanks n blank h)
 spaced-packet : (p : List ℕ) → not (rightPacket p) ≡ false → any reservedCode (drop 3 p) ≡ false → Spaced p
 unfolding marked
 spaced-packet p right plain =
-    let m = and-true (marked p) _ (not-false (rightPacket p) right) in
+    let m = and-true (marked p) _ (right-packet p right .0) in
     let full : _≡_ {A = ℕ} 0x3ff 0 → ⊥ = λ e. omega arith in
     subst Spaced (ap (λ (l : List ℕ). l ++ drop 3 p) (sym (same-true (take 3 p) marker (m .0))) ∙ take-append-drop 3 p)
     (mark (word full (spaced-plain (drop 3 p) plain)))
@@ -63,16 +64,6 @@ spaced-packets (p ∷ ps) right plain =
     let r = any-cons (λ p. not (rightPacket p)) p ps right in
     let q = any-cons (λ p. any reservedCode (drop 3 p)) p ps plain in
     spaced-append (spaced-packet p (r .0) (q .0)) (spaced-packets ps (r .1) (q .1))
-
--- ---- words of ten bits
-
-tens-append : (vs ws : List ℕ) → words10 vs ≡ true → words10 ws ≡ true → words10 (vs ++ ws) ≡ true
-tens-append vs ws v w = words10-append vs ws v ∙ w
-
-tens-blanks : (n blank : ℕ) → blank ≤ 0x3ff → words10 (replicate n blank) ≡ true
-unfolding words10
-tens-blanks zero blank h = refl
-tens-blanks (suc n) blank h = words10-cons blank (replicate n blank) h (tens-blanks n blank h)
 
 -- ---- the parts of a stream
 
@@ -114,16 +105,16 @@ module _ (code line : ℕ) (ok : lineRefusal code line ≡ 0) where
       two-words (plan .places .lines) (plan .codes .ln0) (plan .codes .ln1) (planOf-fits code line ok .lines) (plain .ln0) (plain .ln1)
       (omega arith) (omega arith)
 
-  two-checks : (known : Bool) (r : ℕ) → r < 2 ^ 18 → Two (crcFor plan known r)
+  two-checks : (known : Bool) (r : ℕ) → registerOk r ≡ true → Two (crcFor plan known r)
   unfolding reservedCode
-  two-checks true r low =
+  two-checks true r ok-r =
       let q = crcWords r (headWords plan) in
-      let small : q < 2 ^ 18 = crcWords-range r (headWords plan) low in
+      let small : q < 2 ^ 18 = crcWords-range r (headWords plan) (omega (arith, leb-true r 0x3ffff ok-r)) in
       let c = cr-range q in
       let n = cr-not-reserved q in
       rw (crWords-done q (omega arith))
       (two-words (plan .places .checks) (cr0 q) (cr1 q) (planOf-fits code line ok .checks) (n .0) (n .1) (omega arith) (omega arith))
-  two-checks false r low = two-words (plan .places .checks) 0x200 0x200 (planOf-fits code line ok .checks) refl refl (omega arith) (omega arith)
+  two-checks false r ok-r = two-words (plan .places .checks) 0x200 0x200 (planOf-fits code line ok .checks) refl refl (omega arith) (omega arith)
 
 -- ---- a lawful channel
 
@@ -140,9 +131,9 @@ pub record Lawful (p : Plan) (known : Bool) (r blank : ℕ) (k : Channel) : Type
   pub spaced-middle : Spaced (middle p known r blank (endToEnd (k .packets)))
 
 module _ (code line : ℕ) (ok : lineRefusal code line ≡ 0) where
-  pub lawful-channel : (known : Bool) (r blank : ℕ) (k : Channel) → r < 2 ^ 18 → (blank ≡ 0 → ⊥) → blank ≤ 0x3ff
+  pub lawful-channel : (known : Bool) (r blank : ℕ) (k : Channel) → registerOk r ≡ true → (blank ≡ 0 → ⊥) → blank ≤ 0x3ff
       → lawfulChannel (planOf code line) k ≡ true → Lawful (planOf code line) known r blank k
-  lawful-channel known r blank k low some ten lawful =
+  lawful-channel known r blank k ok-r some ten lawful =
       let p = planOf code line in
       let fits = planOf-fits code line ok in
       let laid = endToEnd (k .packets) in
@@ -156,7 +147,7 @@ module _ (code line : ℕ) (ok : lineRefusal code line ≡ 0) where
       let room = leb-true _ _ (l .1) in
       let plain = not-true (any reservedCode (k .active)) (d .0) in
       let lines = two-lines code line ok in
-      let checks = two-checks code line ok known r low in
+      let checks = two-checks code line ok known r ok-r in
       let spare = p .places .blanks - length laid in
       let rest = replicate spare blank in
       record {

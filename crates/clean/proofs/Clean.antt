@@ -3,29 +3,24 @@ use mathlib.Core.Path.{_≡_, refl, sym, ap, subst, _∙_}
 use mathlib.Core.Bool.{Bool, true}
 use mathlib.Core.List.{List, [], _∷_, _++_}
 use mathlib.Core.Logic.{inl}
-use mathlib.Core.Option.{none}
-use Prim.Native.Nat.{ℕ, zero, suc, _+_, _≤_, _<_}
+use Prim.Native.Nat.{ℕ, zero, suc, _≤_, _<_}
 use native.Mathlib.Omega.{arith}
 use lib.ListN.{length, length-append}
 use borrow.Author.Tests.{le-ltb}
 use Rattle.bits.proofs.Choice.{and-true}
-use Rattle.raster.specs.Layout.{syncOf, hdUnit}
-use Rattle.raster.specs.Table.{lookedUp, entryOf}
-use Rattle.raster.specs.Lines.{lineRefusal}
+use Rattle.raster.specs.Table.{lookedUp, entryOf, totalOf, rowsOf}
 use Rattle.raster.proofs.Table.{lookedUp-range}
 use Rattle.raster.proofs.Lines.{lineRefusal-ok}
-use Rattle.align.specs.Sync.{firstPlace}
 use Rattle.plan.specs.Plan.{planOf}
 use Rattle.row.specs.declared.Carry.{Carry}
 use Rattle.row.specs.declared.Carry.the-variants.{Nothing}
 use Rattle.recogniser.proofs.Windows.{lastOf}
 use Rattle.judging.specs.Happening.{noTrack, lineAfter}
-use Rattle.tally.specs.declared.Verdict.the-variants.{Pass}
 use Rattle.tally.specs.Tally.{noCounts}
-use Rattle.stepper.specs.Step.{Run, totalOf}
+use Rattle.stepper.specs.Step.{Run}
 use Rattle.stepper.proofs.Stepping.{steps-of-append}
-use Rattle.module.specs.Module.{Answer, listed, begunRun, answerIn, afterBits, bitsOf, moduleOf}
-use Rattle.clean.specs.Signal.{Content, lawfulRow, rowBits, carryFrom, signalBits, lawful, OnlyAtStart, CleanPasses}
+use Rattle.module.specs.Module.{listed, begunRun, answerIn, afterBits, bitsOf, moduleOf}
+use Rattle.clean.specs.Signal.{Content, lawfulRow, rowBits, carryFrom, signalBits, lawful, OnlyAtStart, CleanCapture, passed, CleanPasses}
 use Rattle.clean.proofs.Built.{codes}
 use Rattle.clean.proofs.Verdicts.{LawfulRow}
 use Rattle.clean.proofs.Rests.{through, row-rest, steps-row, row-long}
@@ -33,14 +28,8 @@ use Rattle.clean.proofs.Sequence.{lawful-row, total-low, Full, After, s
 use Rattle.clean.proofs.Start.{slides-start, first-code}
 use Rattle.clean.proofs.Tail.{steps-last, Told, tail}
 
-abbrev passed : ℕ → ℕ → Answer
-passed code rows = record { raster = code; counts = record { rows = rows; faults = 0 }; verdict = Pass }
-
-module _ (code line : ℕ) (k next : Content) (ks : List Content) (p q : List Bool)
-    (ok : lineRefusal code line ≡ 0)
-    (count : length ks ≡ lookedUp code .raster .rows)
-    (right : lawful code line (k ∷ next ∷ ks) ≡ true)
-    (first : firstPlace (syncOf hdUnit) p ≡ none)
+module _ (code line : ℕ) (k next : Content) (ks : List Content) (ws : List ℕ) (p q : List Bool)
+    (clean : CleanCapture code line (k ∷ next ∷ ks) ws p q)
     (short : length q < 80)
     (only : OnlyAtStart (signalBits code line Nothing (k ∷ next ∷ ks)) q)
   where
@@ -52,14 +41,14 @@ module _ (code line : ℕ) (k next : Content) (ks : List Content) (p q : List Bo
 
     parts : (lawfulRow (planOf code line) k ≡ true) × (lawful code (lineAfter code line) (next ∷ ks) ≡ true)
     unfolding lawful
-    parts = and-true (lawfulRow (planOf code line) k) _ right
+    parts = and-true (lawfulRow (planOf code line) k) _ (clean .right)
 
     row : LawfulRow code line Nothing k
-    row = lawful-row code line Nothing k ok refl (parts .0)
+    row = lawful-row code line Nothing k (clean .line-ok) refl (parts .0)
 
     first-row : Full code line Nothing k noCounts (through code (rowBits (planOf code line) Nothing k) (through code p begunRun))
     first-row =
-        let is = codes code line ok in
+        let is = codes code line (clean .line-ok) in
         record {
           row = row;
           track = noTrack;
@@ -68,12 +57,12 @@ module _ (code line : ℕ) (k next : Content) (ks : List Content) (p q : List Bo
           stands =
               rw (steps-row code line Nothing k (through code p begunRun))
               (row-rest code line Nothing k row noTrack noCounts _
-              (first-code code total p (planOf code line .codes .eav) first (is .eav-low) (is .eav-is)));
+              (first-code code total p (planOf code line .codes .eav) (clean .first) (is .eav-low) (is .eav-is)));
         }
 
     rows-after : After code (length ks) (through code rows (through code p begunRun))
     rows-after =
-        let r = lookedUp-range code (lineRefusal-ok code line ok .0) in
+        let r = lookedUp-range code (lineRefusal-ok code line (clean .line-ok) .0) in
         rw (steps-rows code line Nothing k (next ∷ ks) (through code p begunRun))
         (all-rows code line k next ks _ (omega (arith, r .rows-high)) first-row (parts .1))
 
@@ -93,12 +82,14 @@ module _ (code line : ℕ) (k next : Content) (ks : List Content) (p q : List Bo
     told =
         let a = rows-after in
         rw (steps-of-append listed code total p (rows ++ q) begunRun, steps-of-append listed code total rows q (through code p begunRun))
-        (tail code total (total-low code line ok) (a .track) (record { rows = length ks; faults = 0 }) (a .y) (a .c) p rows q rows-long short only _
+        (tail code total (total-low code line (clean .line-ok)) (a .track) (record { rows = length ks; faults = 0 }) (a .y) (a .c) p rows q rows-long short only _
         (a .stands .last) (a .stands .same) after-last)
 
     -- end's answer
-    passes : answerIn code (afterBits code (p ++ (rows ++ q))) ≡ passed code (lookedUp code .raster .rows)
-    passes = rw (told .counts, told .seen, count, le-ltb (lookedUp code .raster .rows) (lookedUp code .raster .rows) (omega arith))
+    passes : answerIn code (afterBits code (bitsOf ws)) ≡ passed code
+    passes =
+        let count : length ks ≡ rowsOf code = omega (arith, clean .count) in
+        rw (clean .split, told .counts, told .seen, count, le-ltb (rowsOf code) (rowsOf code) (omega arith))
 
 -- ---- "Code 0 stands for 7"
 
@@ -120,33 +111,29 @@ unfolding lawful
 lawful-zero [] line = refl
 lawful-zero (k ∷ ks) line = rw (plan-zero line, line-zero line, lawful-zero ks (lineAfter 7 line))
 
+clean-zero : (line : ℕ) (ks : List Content) (ws : List ℕ) (p q : List Bool) → CleanCapture 0 line ks ws p q → CleanCapture 7 line ks ws p q
+unfolding lookedUp entryOf
+clean-zero line ks ws p q clean =
+    record {
+      line-ok = clean .line-ok;
+      count = clean .count;
+      right = sym (lawful-zero ks line) ∙ clean .right;
+      split = clean .split ∙ ap (λ (s : List Bool). p ++ (s ++ q)) (signal-zero ks line Nothing);
+      first = clean .first;
+    }
+
 -- ---- the theorem
 
 -- with the code that is meant
-Passes : ℕ → Type 0
-Passes code =
-    (line : ℕ) (ks : List Content) (bs p q : List Bool)
-    → lineRefusal code line ≡ 0
-    → length ks ≡ lookedUp code .raster .rows + 2
-    → lawful code line ks ≡ true
-    → bs ≡ p ++ (signalBits code line Nothing ks ++ q)
-    → firstPlace (syncOf hdUnit) p ≡ none
-    → length q < 80
-    → OnlyAtStart (signalBits code line Nothing ks) q
-    → answerIn code (afterBits code bs) ≡ passed code (lookedUp code .raster .rows)
-
-code-passes : (code : ℕ) → Passes code
-unfolding Passes
-code-passes code line [] bs p q ok count right split first short only = absurd (omega arith)
-code-passes code line (k ∷ []) bs p q ok count right split first short only = absurd (omega arith)
-code-passes code line (k ∷ next ∷ ks) bs p q ok count right split first short only =
-    rw split (passes code line k next ks p q ok (omega arith) right first short only)
+code-passes : (code line : ℕ) (ks : List Content) (ws : List ℕ) (p q : List Bool) → CleanCapture code line ks ws p q → length q < 80
+    → OnlyAtStart (signalBits code line Nothing ks) q → answerIn code (afterBits code (bitsOf ws)) ≡ passed code
+code-passes code line [] ws p q clean short only = absurd (omega (arith, clean .count))
+code-passes code line (k ∷ []) ws p q clean short only =
+    absurd (omega (arith, clean .count, lookedUp-range code (lineRefusal-ok code line (clean .line-ok) .0) .rows-low))
+code-passes code line (k ∷ next ∷ ks) ws p q clean short only = passes code line k next ks ws p q clean short only
 
 pub clean-passes : CleanPasses
-unfolding CleanPasses Passes moduleOf lookedUp entryOf
-clean-passes zero line ks ws p q ok count right split first short only =
-    let e = signal-zero ks line Nothing in
-    code-passes 7 line ks (bitsOf ws) p q ok count (sym (lawful-zero ks line) ∙ right) (split ∙ ap (λ (s : List Bool). p ++ (s ++ q)) e) first short
-    (subst (λ (s : List Bool). OnlyAtStart s q) e only)
-clean-passes (suc n) line ks ws p q ok count right split first short only =
-    code-passes (suc n) line ks (bitsOf ws) p q ok count right split first short only
+unfolding CleanPasses moduleOf
+clean-passes zero line ks ws p q clean short only =
+    code-passes 7 line ks ws p q (clean-zero line ks ws p q clean) short (subst (λ (s : List Bool). OnlyAtStart s q) (signal-zero ks line Nothing) only)
+clean-passes (suc n) line ks ws p q clean short only = code-passes (suc n) line ks ws p q clean short only

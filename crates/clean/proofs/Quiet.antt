@@ -1,6 +1,6 @@
 -- Laws of steps in which nothing happens, and of whole pairs.
 use mathlib.Core.Path.{_≡_, refl, ap, ap₂, _∙_}
-use mathlib.Core.Bool.{Bool, true, false, _||_, or-false}
+use mathlib.Core.Bool.{Bool, true, false, _||_, and-false, or-false}
 use mathlib.Core.List.{List, [], _∷_, _++_}
 use mathlib.Core.Logic.{_⊎_, inl, inr}
 use Prim.Native.Nat.{ℕ, suc, _+_, _-_, _≤_, _<_}
@@ -9,7 +9,6 @@ use lib.Dec.{eqb, ltb}
 use lib.ListN.{length}
 use borrow.Author.Tests.{ne-eqb, lt-leb, le-leb}
 use Rattle.bits.specs.Choice.{if}
-use Rattle.bits.proofs.Choice.{and-false}
 use Rattle.align.specs.Search.{slid}
 use Rattle.parts.specs.Parts.{part}
 use Rattle.stream.specs.Words.{trs}
@@ -61,6 +60,11 @@ module _ (code total : ℕ) (seen : Bool) (last ahead pairs bit : ℕ) (t : Trac
       ap (λ (next : ℕ). arrived (eventOf total ahead (place pairs bit) next) (isSync next) next) f
       ∙ ap₂ (λ (e : Event) (sync : Bool). arrived e sync next) g h
 
+-- no XYZ pair is to come, or it ends after these bits: so it is after the first of them
+one-less : {ahead n : ℕ} → (ahead ≡ 0) ⊎ (suc n < ahead) → (ahead - 1 ≡ 0) ⊎ (n < ahead - 1)
+one-less (inl z) = inl (omega arith)
+one-less (inr l) = inr (omega arith)
+
 module _ (code total : ℕ) (t : Track) (n : Counts) where
   -- ---- bits within a pair of an open row
 
@@ -86,16 +90,12 @@ module _ (code total : ℕ) (t : Track) (n : Counts) where
       let e : ahead - 1 - length bs ≡ ahead - suc (length bs) = omega arith in
       let f : bit + 1 + length bs ≡ bit + suc (length bs) = omega arith in
       ap (steps listed code total bs) (within last ahead pairs bit b y c some (not-one far) (omega arith) (none .0))
-      ∙ quiet bs (slid last b) (ahead - 1) pairs (bit + 1) y c some (none .1) (omega arith) (less far)
+      ∙ quiet bs (slid last b) (ahead - 1) pairs (bit + 1) y c some (none .1) (omega arith) (one-less far)
       ∙ ap₂ (λ (a k : ℕ). standing true (slides last (b ∷ bs)) a pairs k t n y c) e f
     where
       not-one : (ahead ≡ 0) ⊎ (suc (length bs) < ahead) → ahead ≡ 1 → ⊥
       not-one (inl z) e = omega arith
       not-one (inr l) e = omega arith
-
-      less : (ahead ≡ 0) ⊎ (suc (length bs) < ahead) → (ahead - 1 ≡ 0) ⊎ (length bs < ahead - 1)
-      less (inl z) = inl (omega arith)
-      less (inr l) = inr (omega arith)
 
 -- ---- a whole pair of an open row
 
@@ -122,6 +122,9 @@ module _ (code total : ℕ) (t : Track) (n : Counts) (l pairs c y : ℕ) (ry rc 
         further (inl z) = inl z
         further (inr h) = inr (omega (arith, length-firstBits c y))
 
+    seen : Seen (pairLast l c y) c y
+    seen = pair-seen l c y small low-c low-y
+
     pub plain-pair : (ahead : ℕ) (sync : Bool) → pairs < total + 3 → (ahead ≡ 0) ⊎ ((ahead ≡ 20) × (isEav y ≡ false)) → isSync (pairLast l c y) ≡ sync
         → steps listed code total (pairBits c y) (standing true l ahead pairs 0 t n ry rc)
         ≡ standing true (pairLast l c y) (if sync 20 0) (pairs + 1) 0 t n (grow total pairs y ry) (grow total pairs c rc)
@@ -133,9 +136,6 @@ module _ (code total : ℕ) (t : Track) (n : Counts) (l pairs c y : ℕ) (ry rc 
         ∙ rw (seen .y-word, seen .c-word)
         (ap (λ (a : ℕ). standing true (pairLast l c y) (if sync 20 a) (pairs + 1) 0 t n (grow total pairs y ry) (grow total pairs c rc)) (spent far))
       where
-        seen : Seen (pairLast l c y) c y
-        seen = pair-seen l c y small low-c low-y
-
         waits : (ahead ≡ 0) ⊎ ((ahead ≡ 20) × (isEav y ≡ false)) → (ahead ≡ 0) ⊎ (19 < ahead)
         waits (inl z) = inl z
         waits (inr h) = inr (omega arith)
@@ -160,9 +160,6 @@ module _ (code total : ℕ) (t : Track) (n : Counts) (l pairs c y : ℕ) (ry rc 
         (slid-top l c y low-c low-y) event is
         ∙ rw (seen .y-word, seen .c-word)
       where
-        seen : Seen (pairLast l c y) c y
-        seen = pair-seen l c y small low-c low-y
-
         event : eventOf total 1 (place pairs 19) (pairLast l c y) ≡ Whole
         event = rw (ne-eqb pairs 0 (λ e. omega arith), seen .y-word, eav, le-leb (total + 3) pairs late)
 
@@ -181,13 +178,9 @@ module _ (code total : ℕ) (seen : Bool) (t : Track) (n : Counts) where
       ap (steps listed code total bs)
       (step-with code total seen last ahead 0 0 t n [] [] b (slid last b) Outside false refl (event far) (none .0)
       ∙ ap (λ (s : Bool). standing s (slid last b) (ahead - 1) 0 0 t n [] []) (or-false seen))
-      ∙ quiet-outside bs (slid last b) (ahead - 1) (none .1) (less far)
+      ∙ quiet-outside bs (slid last b) (ahead - 1) (none .1) (one-less far)
       ∙ ap (outside (slides last (b ∷ bs))) e
     where
       event : (ahead ≡ 0) ⊎ (suc (length bs) < ahead) → eventOf total ahead nowhere (slid last b) ≡ Outside
       event (inl z) = rw (ne-eqb ahead 1 (λ e. omega arith))
       event (inr h) = rw (ne-eqb ahead 1 (λ e. omega arith))
-
-      less : (ahead ≡ 0) ⊎ (suc (length bs) < ahead) → (ahead - 1 ≡ 0) ⊎ (length bs < ahead - 1)
-      less (inl z) = inl (omega arith)
-      less (inr h) = inr (omega arith)

@@ -7,17 +7,18 @@ use native.Mathlib.Omega.{arith}
 use lib.ListN.{length}
 use Rattle.bits.specs.Bits.{bits, wordBits}
 use Rattle.bits.proofs.Bits.{length-wordBits}
+use Rattle.raster.specs.Table.{totalOf}
 use Rattle.cable.specs.Channels.{paired}
+use Rattle.parts.specs.Parts.{endToEnd}
 use Rattle.plan.specs.declared.Plan.{Plan}
 use Rattle.plan.specs.Plan.{planOf}
 use Rattle.plan.proofs.Plans.{planOf-fits, planOf-total}
 use Rattle.stream.specs.Words.{yBlank, cBlank, trs}
 use Rattle.row.specs.declared.Carry.{Carry}
 use Rattle.row.specs.Before.{carried}
-use Rattle.rowlaws.specs.Lawful.{endToEnd}
 use Rattle.judging.specs.declared.Track.{Track}
 use Rattle.tally.specs.declared.Counts.{Counts}
-use Rattle.stepper.specs.Step.{Run, totalOf, steps}
+use Rattle.stepper.specs.Step.{Run, steps}
 use Rattle.module.specs.Module.{listed}
 use Rattle.clean.specs.Signal.{Content, rowBits}
 use Rattle.clean.proofs.Spaced.Spaced.{word}

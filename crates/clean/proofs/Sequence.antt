@@ -1,32 +1,31 @@
 -- Laws of rows that are built line after line: each is judged by the EAV of the next.
-use mathlib.Core.Path.{_≡_, refl, ap, subst}
-use mathlib.Core.Bool.{Bool, true, _&&_}
+use mathlib.Core.Path.{_≡_, refl, subst}
+use mathlib.Core.Bool.{Bool, true}
 use mathlib.Core.List.{List, [], _∷_}
 use mathlib.Core.Logic.{_⊎_, inr}
-use Prim.Native.Nat.{ℕ, suc, _+_, _^_, _≤_, _<_}
+use Prim.Native.Nat.{ℕ, suc, _+_, _≤_, _<_}
 use native.Mathlib.Omega.{arith}
-use native.Mathlib.Decide.{decLt}
-use lib.Dec.{leb}
 use lib.ListN.{length}
-use borrow.Author.Tests.{le-leb, leb-true, lt-ltb, le-ltb}
+use borrow.Author.Tests.{lt-ltb}
 use Rattle.bits.proofs.Choice.{and-true}
-use Rattle.raster.specs.Table.{rasterOk, lookedUp, entryOf}
+use Rattle.raster.specs.Table.{totalOf}
 use Rattle.raster.specs.Lines.{lineRefusal}
-use Rattle.raster.proofs.Table.{lookedUp-found, raster-range, lookedUp-range}
-use Rattle.raster.proofs.Lines.{lineOk-range, lineRefusal-ok, ok-lineRefusal, between-yes}
-use Rattle.crc.specs.Crc.{crcStart, crcWords}
-use Rattle.crc.proofs.Range.{crcWords-range}
+use Rattle.raster.proofs.Table.{lookedUp-range}
+use Rattle.raster.proofs.Lines.{lineRefusal-ok}
+use Rattle.crc.proofs.Range.{crcWords-ok}
 use Rattle.plan.specs.Plan.{planOf}
 use Rattle.stream.specs.Words.{yBlank, cBlank, trs}
 use Rattle.row.specs.declared.Carry.{Carry}
-use Rattle.row.specs.declared.Carry.the-variants.{Nothing, Registers}
+use Rattle.row.specs.declared.Carry.the-variants.{Nothing}
 use Rattle.row.specs.Before.{carried, carryOk}
+use Rattle.row.proofs.Rows.{carried-ok}
 use Rattle.judging.specs.declared.Track.{Track}
 use Rattle.judging.specs.declared.Happened.{Happened}
 use Rattle.judging.specs.Happening.{lineAfter, happenings}
+use Rattle.judging.proofs.Lines.{lineAfter-ok}
 use Rattle.tally.specs.declared.Counts.{Counts}
 use Rattle.tally.specs.Tally.{ceiling, raised, noCounts, tallied}
-use Rattle.stepper.specs.Step.{Run, totalOf, steps}
+use Rattle.stepper.specs.Step.{Run, steps}
 use Rattle.stepper.proofs.Stepping.{steps-of-append}
 use Rattle.module.specs.Module.{listed}
 use Rattle.clean.specs.Signal.{Content, lawfulRow, rowBits, carryFrom, signalBits, lawful}
@@ -35,40 +34,15 @@ use Rattle.clean.proofs.Built.{lawful-channel, codes}
 use Rattle.clean.proofs.Verdicts.{ysOf, csOf, LawfulRow, rightRow, whole-built}
 use Rattle.clean.proofs.Rests.{through, row-rest, steps-row}
 
--- ---- lines and carries
-
-pub next-line : (code line : ℕ) → lineRefusal code line ≡ 0 → lineRefusal code (lineAfter code line) ≡ 0
-next-line code line ok =
-    let r = lineRefusal-ok code line ok in
-    let o = lineOk-range code line (r .0) (r .1) in
-    let rows : lookedUp code .raster .rows ≡ entryOf code .rows = ap (λ l. l .raster .rows) (lookedUp-found code (r .0)) in
-    ok-lineRefusal code (lineAfter code line) (r .0) (go (r .0) rows (decLt line (lookedUp code .raster .rows)))
-  where
-    go : rasterOk code ≡ true → lookedUp code .raster .rows ≡ entryOf code .rows → Dec (line < lookedUp code .raster .rows)
-        → (leb 1 (lineAfter code line) && leb (lineAfter code line) (entryOf code .rows)) ≡ true
-    go raster rows (yes l) =
-        rw (lt-ltb line (lookedUp code .raster .rows) l) (between-yes 1 (entryOf code .rows) (line + 1) (omega arith) (omega arith))
-    go raster rows (no g) =
-        rw (le-ltb line (lookedUp code .raster .rows) (omega arith))
-        (between-yes 1 (entryOf code .rows) 1 (omega arith) (omega (arith, raster-range code raster .rows-low)))
+-- ---- carries
 
 pub carryFrom-ok : (k : Content) → carryOk (carryFrom k) ≡ true
-carryFrom-ok k =
-    rw (
-      le-leb (crcWords crcStart (k .y .active)) 0x3ffff (omega (arith, crcWords-range crcStart (k .y .active) (omega arith))),
-      le-leb (crcWords crcStart (k .c .active)) 0x3ffff (omega (arith, crcWords-range crcStart (k .c .active) (omega arith))),
-    )
-
-registers : (carry : Carry) → carryOk carry ≡ true → (carried carry .y < 2 ^ 18) × (carried carry .c < 2 ^ 18)
-registers Nothing e = (omega arith, omega arith)
-registers (Registers y c) e =
-    let b = and-true (leb y 0x3ffff) _ e in
-    (omega (arith, leb-true y 0x3ffff (b .0)), omega (arith, leb-true c 0x3ffff (b .1)))
+carryFrom-ok k = rw (crcWords-ok (k .y .active), crcWords-ok (k .c .active))
 
 pub lawful-row : (code line : ℕ) (carry : Carry) (k : Content) → lineRefusal code line ≡ 0 → carryOk carry ≡ true
     → lawfulRow (planOf code line) k ≡ true → LawfulRow code line carry k
 lawful-row code line carry k ok right good =
-    let r = registers carry right in
+    let r = carried-ok carry right in
     let b = carried carry in
     let l = and-true _ _ good in
     record {
@@ -102,7 +76,7 @@ module _ (code line : ℕ) (carry : Carry) (k next : Content) (n : Counts) (x : 
   unfolding tallied
   row-next f good =
       let l = lineAfter code line in
-      let row = lawful-row code l (carryFrom k) next (next-line code line (f .row .ok)) (carryFrom-ok k) good in
+      let row = lawful-row code l (carryFrom k) next (lineAfter-ok code line (f .row .ok)) (carryFrom-ok k) good in
       let is = codes code l (row .ok) in
       let right = whole-built code line carry k (f .row) (f .track) (f .expected) (f .carried) in
       let e = planOf code l .codes .eav in

@@ -26,11 +26,12 @@ use Rattle.plan.proofs.Plans.{planOf-fits}
 use Rattle.row.specs.declared.Carry.{Carry}
 use Rattle.row.specs.declared.Carry.the-variants.{Nothing}
 use Rattle.judging.specs.Happening.{lineAfter}
+use Rattle.judging.proofs.Lines.{lineAfter-ok}
 use Rattle.clean.specs.Signal.{Content, lawfulRow, rowBits, carryFrom, signalBits, lawful, OnlyAtStart, CleanPasses, CleanPassesShort}
 use Rattle.clean.proofs.Sliding.{pairBits, length-pairBits}
 use Rattle.clean.proofs.Verdicts.{LawfulRow}
 use Rattle.clean.proofs.Rests.{row-active}
-use Rattle.clean.proofs.Sequence.{next-line, carryFrom-ok, lawful-row}
+use Rattle.clean.proofs.Sequence.{carryFrom-ok, lawful-row}
 use Rattle.clean.proofs.Clean.{clean-passes}
 
 -- ---- the last pair of a signal
@@ -79,7 +80,7 @@ unfolding signalBits lawful
 signal-ends [] code line carry k row good = subst Ends (sym (append-nil _)) (row-ends code line carry k row)
 signal-ends (next ∷ ks) code line carry k row good =
     let g = and-true (lawfulRow (planOf code (lineAfter code line)) next) _ good in
-    let after = lawful-row code (lineAfter code line) (carryFrom k) next (next-line code line (row .ok)) (carryFrom-ok k) (g .0) in
+    let after = lawful-row code (lineAfter code line) (carryFrom k) next (lineAfter-ok code line (row .ok)) (carryFrom-ok k) (g .0) in
     ends-append (rowBits (planOf code line) carry k) _ (signal-ends ks code (lineAfter code line) (carryFrom k) next after (g .1))
 
 -- ---- no sync ends soon after it
@@ -145,6 +146,6 @@ only-at-start-short code line k ks q ok right short =
 
 pub clean-passes-short : CleanPassesShort
 unfolding CleanPassesShort CleanPasses
-clean-passes-short code line [] ws p q ok count right split first short = absurd (omega arith)
-clean-passes-short code line (k ∷ ks) ws p q ok count right split first short =
-    clean-passes code line (k ∷ ks) ws p q ok count right split first (omega arith) (only-at-start-short code line k ks q ok right short)
+clean-passes-short code line [] ws p q clean short = absurd (omega (arith, clean .count))
+clean-passes-short code line (k ∷ ks) ws p q clean short =
+    clean-passes code line (k ∷ ks) ws p q clean (omega arith) (only-at-start-short code line k ks q (clean .line-ok) (clean .right) short)

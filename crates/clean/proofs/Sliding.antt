@@ -7,12 +7,11 @@ use native.Mathlib.Omega.{arith}
 use native.Mathlib.Nat.{pow-suc, pow-succ', div-div-eq-div-mul, add-mul-div-left}
 use lib.ListN.{length, length-append}
 use lib.Pow.{pow-pos, pow-mono, pow-add}
-use borrow.Author.Tests.{ne-eqb}
 use Rattle.bits.specs.Bits.{digit, odd, bits, number}
 use Rattle.bits.proofs.Bits.{digit-lt, length-bits, number-bits, number-append}
-use Rattle.raster.specs.Layout.{syncOf, hdUnit}
 use Rattle.align.specs.Search.{slid}
 use Rattle.recogniser.specs.Sight.{isSync, cWord, yWord}
+use Rattle.recogniser.proofs.Events.{isSync-other}
 
 -- bit after bit
 abbrev pub slides : ℕ → List Bool → ℕ
@@ -29,13 +28,6 @@ abbrev pub NoSync : ℕ → List Bool → Type 0
 NoSync l [] = Unit {0}
 NoSync l (b ∷ bs) = (isSync (slid l b) ≡ false) × NoSync (slid l b) bs
 
-pub number-sync : number (syncOf hdUnit) ≡ 0xfffff
-unfolding number
-number-sync = refl
-
-not-sync : (l : ℕ) → (l ≡ 0xfffff → ⊥) → isSync l ≡ false
-not-sync l h = ne-eqb l _ (λ e. h (e ∙ number-sync))
-
 -- the low bits of a high number are not those of a sync, for as long as it takes to leave
 pub high-no-sync : (l : ℕ) (bs : List Bool) → 2 ^ length bs * 0x100000 ≤ l → NoSync l bs
 high-no-sync l [] h = tt
@@ -43,19 +35,19 @@ high-no-sync l (b ∷ bs) h =
     let d = digit-lt b in
     let p = pow-pos (length bs) in
     let half : 2 ^ length bs * 0x100000 ≤ slid l b = omega (arith, pow-suc 2 (length bs)) in
-    (not-sync (slid l b) (λ e. omega arith), high-no-sync (slid l b) bs half)
+    (isSync-other (slid l b) (λ e. omega arith), high-no-sync (slid l b) bs half)
 
 -- a one is high enough for the 39 bits after it
 pub one-no-sync : (l : ℕ) (bs : List Bool) → length bs ≤ 39 → NoSync l (true ∷ bs)
 one-no-sync l bs h =
     let p : 2 ^ length bs ≤ 2 ^ 39 = pow-mono h in
-    (not-sync (slid l true) (λ e. omega arith), high-no-sync (slid l true) bs (omega arith))
+    (isSync-other (slid l true) (λ e. omega arith), high-no-sync (slid l true) bs (omega arith))
 
 -- after a sync, or after zeros, none ends before a one has come
 low-no-sync : (l : ℕ) (bs : List Bool) → l ≤ 0xfffff → length bs ≤ 40 → NoSync l bs
 low-no-sync l [] low h = tt
 low-no-sync l (true ∷ bs) low h = one-no-sync l bs (omega arith)
-low-no-sync l (false ∷ bs) low h = (not-sync (slid l false) (λ e. omega arith), low-no-sync (slid l false) bs (omega arith) (omega arith))
+low-no-sync l (false ∷ bs) low h = (isSync-other (slid l false) (λ e. omega arith), low-no-sync (slid l false) bs (omega arith) (omega arith))
 
 -- .. in the first of some bits, and in the rest
 no-sync-split : (l : ℕ) (xs bs : List Bool) → NoSync l (xs ++ bs) → NoSync l xs × NoSync (slides l xs) bs

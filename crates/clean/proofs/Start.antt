@@ -20,13 +20,14 @@ use Rattle.stream.specs.Words.{trs}
 use Rattle.recogniser.specs.declared.Event.the-variants.{Outside, Opens}
 use Rattle.recogniser.specs.Sight.{isSync, isEav}
 use Rattle.recogniser.specs.Event.{eventOf}
+use Rattle.recogniser.proofs.Events.{sync-number}
 use Rattle.recogniser.proofs.Windows.{lastOf, slid-lastOf, isSync-of-sync, isSync-ends}
 use Rattle.judging.specs.Happening.{noTrack, happened}
 use Rattle.tally.specs.Tally.{noCounts, tallied}
 use Rattle.stepper.specs.Step.{stepped, steps}
 use Rattle.stepper.proofs.Stepping.{steps-of-append}
 use Rattle.module.specs.Module.{listed, begunRun}
-use Rattle.clean.proofs.Sliding.{slides, NoSync, number-sync, no-sync-after, no-sync-pair, pairBits, firstBits, topBit, length-firstBits, pairBits-split, pairLast, slid-top, pair-seen}
+use Rattle.clean.proofs.Sliding.{slides, NoSync, no-sync-after, no-sync-pair, pairBits, firstBits, topBit, length-firstBits, pairBits-split, pairLast, slid-top, pair-seen}
 use Rattle.clean.proofs.Quiet.{standing, step-with, quiet-outside}
 use Rattle.clean.proofs.Stretch.{sent, Stands}
 
@@ -99,7 +100,7 @@ module _ (code total : ℕ) where
       ap (λ (k : ℕ). slid k false) (slides-start (p ++ almost)) ∙ slid-lastOf (p ++ almost) false ∙ ap lastOf (append-assoc p almost (false ∷ [])) in
       let is = isSync-of-sync p in
       let spent : 0 - length (p ++ almost) ≡ 0 = omega arith in
-      let value : slid l false ≡ 0xfffff = whole ∙ eqb-true _ _ is ∙ number-sync in
+      let value : slid l false ≡ 0xfffff = whole ∙ eqb-true _ _ is ∙ sync-number in
       ap (λ (bs : List Bool). steps listed code total bs begunRun) (sym (append-assoc p almost (false ∷ [])))
       ∙ steps-of-append listed code total (p ++ almost) (false ∷ []) begunRun
       ∙ ap (stepped listed code total false)

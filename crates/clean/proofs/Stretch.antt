@@ -7,7 +7,7 @@ use Prim.Native.Nat.{ℕ, suc, _+_, _≤_, _<_}
 use native.Mathlib.Omega.{arith}
 use native.Mathlib.Decide.{ℕ-discrete}
 use lib.ListN.{length}
-use borrow.Author.Tests.{eq-eqb, lt-ltb, le-ltb}
+use borrow.Author.Tests.{lt-ltb, le-ltb}
 use Rattle.bits.specs.Bits.{odd, bits, wordBits}
 use Rattle.bits.specs.Words.{words10}
 use Rattle.bits.proofs.Words.{words10-head, words10-tail}
@@ -16,6 +16,7 @@ use Rattle.parts.specs.Parts.{part}
 use Rattle.stream.specs.Words.{trs}
 use Rattle.recogniser.specs.declared.Event.the-variants.{Whole}
 use Rattle.recogniser.specs.Sight.{isSync, isEav}
+use Rattle.recogniser.proofs.Events.{isSync-number}
 use Rattle.judging.specs.declared.Track.{Track}
 use Rattle.judging.specs.Happening.{happened, happenings}
 use Rattle.tally.specs.declared.Counts.{Counts}
@@ -23,7 +24,7 @@ use Rattle.tally.specs.Tally.{tallied}
 use Rattle.stepper.specs.Step.{Run, steps}
 use Rattle.stepper.proofs.Stepping.{steps-of-append}
 use Rattle.module.specs.Module.{listed}
-use Rattle.clean.proofs.Sliding.{number-sync, NoSync, high-no-sync, one-no-sync, no-sync-after, pairBits, firstBits, length-pairBits, length-firstBits, pairLast, no-sync-pair, pair-seen}
+use Rattle.clean.proofs.Sliding.{NoSync, high-no-sync, one-no-sync, no-sync-after, pairBits, firstBits, length-pairBits, length-firstBits, pairLast, no-sync-pair, pair-seen}
 use Rattle.clean.proofs.Quiet.{standing, grow, plain-pair, whole-pair}
 use Rattle.clean.proofs.Spaced.{Spaced, spaced-after}
 
@@ -158,7 +159,7 @@ module _ (code total : ℕ) (t : Track) (n : Counts) where
       let n2 = no-sync-pair l1 0x000 0x000 (omega arith) (omega arith) (high-no-sync l1 (pairBits 0 0) (rw (length-pairBits 0 0) (omega arith))) in
       let n3 : NoSync l2 (firstBits 0 0) = high-no-sync l2 (firstBits 0 0) (rw (length-firstBits 0 0) (omega arith)) in
       let l3 : pairLast l2 0x000 0x000 ≡ 0xfffff = omega arith in
-      let is : isSync (pairLast l2 0x000 0x000) ≡ true = eq-eqb _ _ (l3 ∙ sym number-sync) in
+      let is : isSync (pairLast l2 0x000 0x000) ≡ true = isSync-number _ l3 in
       let y1 = grow total pairs 0x3ff ry in
       let c1 = grow total pairs 0x3ff rc in
       let y2 = grow total (pairs + 1) 0x000 y1 in

@@ -8,11 +8,12 @@ use native.Mathlib.Omega.{arith}
 use lib.ListN.{length, take}
 use lib.Seq.{take-all}
 use Rattle.bits.proofs.Lists.{cons-equal}
+use Rattle.raster.specs.Table.{totalOf}
 use Rattle.raster.specs.Lines.{lineRefusal}
 use Rattle.raster.proofs.Lines.{lineOk-range, lineRefusal-ok}
 use Rattle.timing.specs.Line.{ln0Of, ln1Of}
 use Rattle.timing.proofs.Line.{line-read-of-build}
-use Rattle.parts.specs.Parts.{part}
+use Rattle.parts.specs.Parts.{part, endToEnd}
 use Rattle.plan.specs.Plan.{planOf}
 use Rattle.plan.proofs.Plans.{planOf-fits, planOf-found, planOf-total}
 use Rattle.stream.specs.Words.{yBlank, cBlank, lineWordsOf}
@@ -21,15 +22,14 @@ use Rattle.row.specs.declared.Carry.the-variants.{Registers}
 use Rattle.row.specs.Before.{carried, carryOk}
 use Rattle.row.specs.Row.{judgedBy, judged}
 use Rattle.compose.specs.Compose.{streamOf, yStream, cStream}
-use Rattle.rowlaws.specs.Lawful.{endToEnd}
 use Rattle.rowlaws.proofs.BuiltParts.{length-streamOf, registerAfter-streamOf}
 use Rattle.rowlaws.proofs.NoFlag.{built-no-flag}
 use Rattle.recogniser.specs.declared.Event.the-variants.{Whole}
 use Rattle.judging.specs.declared.Track.{Track}
 use Rattle.judging.specs.declared.Happened.{Happened}
 use Rattle.judging.specs.declared.Happening.the-variants.{RowJudged}
-use Rattle.judging.specs.Happening.{lineOf, lineAfter, rowJudged, completed, happened}
-use Rattle.stepper.specs.Step.{totalOf}
+use Rattle.judging.specs.Happening.{lineOf, lineAfter, rowJudged, happened}
+use Rattle.judging.proofs.Lines.{completed-numbered}
 use Rattle.clean.specs.Signal.{Content, carryFrom}
 use Rattle.clean.proofs.Built.{Lawful}
 
@@ -51,12 +51,6 @@ pub record LawfulRow (code line : ℕ) (carry : Carry) (k : Content) : Type 0 wh
 abbrev pub rightRow : ℕ → ℕ → Carry → Content → Happened
 rightRow code line carry k =
     record { happening = RowJudged line 0 (carried carry .known); track = record { line = lineAfter code line; carry = carryFrom k } }
-
--- a row with a line is judged
-completed-line : (code line : ℕ) (carry : Carry) (y c : List ℕ) → 1 ≤ line
-    → completed code line carry y c ≡ rowJudged code line carry (judged code line carry y c)
-completed-line code zero carry y c h = absurd (omega arith)
-completed-line code (suc m) carry y c h = refl
 
 module _ (code line : ℕ) (carry : Carry) (k : Content) (row : LawfulRow code line carry k) where
   length-ys : length (ysOf code line carry k) ≡ totalOf code
@@ -114,4 +108,4 @@ module _ (code line : ℕ) (carry : Carry) (k : Content) (row : LawfulRow code l
         line-found (t .line) expected,
         same,
       )
-      (completed-line code line carry (ysOf code line carry k) (csOf code line carry k) line-low ∙ ap (rowJudged code line carry) judged-built)
+      (completed-numbered code line carry (ysOf code line carry k) (csOf code line carry k) (λ z. omega (arith, line-low)) ∙ ap (rowJudged code line carry) judged-built)

@@ -8,21 +8,21 @@ use lib.ListN.{length, drop}
 use Rattle.bits.specs.Bits.{wordBits}
 use Rattle.bits.specs.Words.{words10, reservedCode}
 use Rattle.raster.specs.Layout.{syncOf, hdUnit}
-use Rattle.raster.specs.Table.{meant, lookedUp}
+use Rattle.raster.specs.Table.{meant, rowsOf}
 use Rattle.raster.specs.Lines.{lineRefusal}
 use Rattle.crc.specs.Crc.{crcStart, crcWords}
 use Rattle.cable.specs.Channels.{paired}
 use Rattle.align.specs.Sync.{firstPlace}
-use Rattle.parts.specs.Parts.{any}
+use Rattle.parts.specs.Parts.{any, endToEnd}
 use Rattle.plan.specs.declared.Plan.{Plan}
 use Rattle.plan.specs.Plan.{planOf}
 use Rattle.row.specs.declared.Carry.{Carry}
 use Rattle.row.specs.declared.Carry.the-variants.{Nothing, Registers}
 use Rattle.compose.specs.Compose.{yStream, cStream, lengthsOk}
-use Rattle.rowlaws.specs.Lawful.{allRight, endToEnd}
+use Rattle.rowlaws.specs.Lawful.{allRight}
 use Rattle.tally.specs.declared.Verdict.the-variants.{Pass}
 use Rattle.judging.specs.Happening.{lineAfter}
-use Rattle.module.specs.Module.{bitsOf, moduleOf}
+use Rattle.module.specs.Module.{Answer, bitsOf, moduleOf}
 
 -- what a channel of a row is built from: active words, and packets laid end to end from the start of the blanking
 pub record Channel : Type 0 where
@@ -71,28 +71,34 @@ lawful code line (k ∷ ks) = lawfulRow (planOf code line) k && lawful code (lin
 abbrev pub OnlyAtStart : List Bool → List Bool → Type 0
 OnlyAtStart rows q = (u v : List Bool) → rows ++ q ≡ u ++ (syncOf hdUnit ++ v) → length v < length q → length u ≡ length rows
 
--- A clean signal passes: N + 2 lawful rows from any line on, the first without a carry, after bits without a sync, and before fewer than 80 bits, in which no sync
--- ends but one that starts with them: any other would be a sync at another alignment while the last row is open, a fault.
+-- words whose bits are those of N + 2 lawful rows from any line on, the first without a carry, after bits p without a
+-- sync, and before bits q
+pub record CleanCapture (code line : ℕ) (ks : List Content) (ws : List ℕ) (p q : List Bool) : Type 0 where
+  pub line-ok : lineRefusal code line ≡ 0
+  pub count : length ks ≡ rowsOf code + 2
+  pub right : lawful code line ks ≡ true
+  pub split : bitsOf ws ≡ p ++ (signalBits code line Nothing ks ++ q)
+  pub first : firstPlace (syncOf hdUnit) p ≡ none
+
+-- N rows and no fault
+abbrev pub passed : ℕ → Answer
+passed code = record { raster = code; counts = record { rows = rowsOf code; faults = 0 }; verdict = Pass }
+
+-- A clean signal passes before fewer than 80 bits, in which no sync ends but one that starts with them: any other would be
+-- a sync at another alignment while the last row is open, a fault.
 unfoldable pub CleanPasses : Type 0
 CleanPasses =
     (code line : ℕ) (ks : List Content) (ws : List ℕ) (p q : List Bool)
-    → lineRefusal code line ≡ 0
-    → length ks ≡ lookedUp code .raster .rows + 2
-    → lawful code line ks ≡ true
-    → bitsOf ws ≡ p ++ (signalBits code line Nothing ks ++ q)
-    → firstPlace (syncOf hdUnit) p ≡ none
+    → CleanCapture code line ks ws p q
     → length q < 80
     → OnlyAtStart (signalBits code line Nothing ks) q
-    → moduleOf code ws ≡ record { raster = meant code; counts = record { rows = lookedUp code .raster .rows; faults = 0 }; verdict = Pass }
+    → moduleOf code ws ≡ passed (meant code)
 
--- .. and before fewer than 53 bits with no condition: no sync can end in so few, for the last row's words are not reserved and end in at most seven ones
+-- .. and before fewer than 53 bits with no condition: no sync can end in so few, for the last row's words are not reserved
+-- and end in at most seven ones
 unfoldable pub CleanPassesShort : Type 0
 CleanPassesShort =
     (code line : ℕ) (ks : List Content) (ws : List ℕ) (p q : List Bool)
-    → lineRefusal code line ≡ 0
-    → length ks ≡ lookedUp code .raster .rows + 2
-    → lawful code line ks ≡ true
-    → bitsOf ws ≡ p ++ (signalBits code line Nothing ks ++ q)
-    → firstPlace (syncOf hdUnit) p ≡ none
+    → CleanCapture code line ks ws p q
     → length q < 53
-    → moduleOf code ws ≡ record { raster = meant code; counts = record { rows = lookedUp code .raster .rows; faults = 0 }; verdict = Pass }
+    → moduleOf code ws ≡ passed (meant code)

@@ -6,13 +6,14 @@ use Prim.Native.Nat.{ℕ, zero, suc, _≤_}
 use native.Mathlib.Omega.{arith}
 use lib.Dec.{leb, eqb}
 use lib.ListN.{length}
-use borrow.Author.Tests.{leb-true}
+use borrow.Author.Tests.{eqb-true, leb-true}
 use Rattle.bits.specs.Choice.{if}
 use Rattle.bits.specs.Words.{words10}
-use Rattle.bits.proofs.Choice.{and-true}
+use Rattle.bits.proofs.Choice.{and-true, if-zero}
 use Rattle.raster.specs.Lines.{lineRefusal}
 use Rattle.parts.specs.Parts.{laidUnless}
 use Rattle.plan.specs.declared.Plan.{Plan}
+use Rattle.plan.specs.Fits.{Fits}
 use Rattle.plan.specs.Plan.{planOf}
 use Rattle.plan.proofs.Plans.{planOf-fits}
 use Rattle.plan.proofs.Rows.{orRefusal-first, orRefusal-none}
@@ -20,7 +21,13 @@ use Rattle.row.specs.declared.Carry.{Carry}
 use Rattle.row.specs.declared.Carry.the-variants.{Nothing}
 use Rattle.row.specs.Before.{carryOk}
 use Rattle.compose.specs.Compose.{lengthsOk, unmakeableRow, roomOk, madeRefusal, refusalUnder, buildRefusal, builtFor}
-use Rattle.compose.specs.Placed.{Placed}
+
+-- ---- lengthsOk
+
+pub lengths-of : (p : Plan) (active laid : List ℕ) → lengthsOk p active laid ≡ true → (length active ≡ p .places .count) × (length laid ≤ p .places .blanks)
+lengths-of p active laid e =
+    let b = and-true (eqb (length active) (p .places .count)) _ e in
+    (eqb-true _ _ (b .0), leb-true _ _ (b .1))
 
 -- ---- refusalUnder
 
@@ -58,13 +65,10 @@ pub record Buildable (code line : ℕ) (carry : Carry) (yActive cActive yLaid cL
   pub y-room : planOf code line .places .total ≤ yRoom
   pub c-room : planOf code line .places .total ≤ cRoom
 
-none-refused : (lengths words bad room : Bool) → if {A = ℕ} lengths (if words (if bad 8 (if room 0 1)) 3) 2 ≡ 0
-    → (lengths ≡ true) × (words ≡ true) × (room ≡ true)
-none-refused true true false true e = (refl, refl, refl)
-none-refused true true false false e = absurd (omega arith)
-none-refused true true true room e = absurd (omega arith)
-none-refused true false bad room e = absurd (omega arith)
-none-refused false words bad room e = absurd (omega arith)
+-- what would be made is looked at before the room
+room-left : (bad room : Bool) → if {A = ℕ} bad 8 (if room 0 1) ≡ 0 → room ≡ true
+room-left true room e = absurd (omega arith)
+room-left false room e = if-zero room 0 0 e .0
 
 pub buildRefusal-ok : (code line : ℕ) (carry : Carry) (yActive cActive yLaid cLaid : List ℕ) (yRoom cRoom : ℕ)
     → buildRefusal code line carry yActive cActive yLaid cLaid yRoom cRoom ≡ 0
@@ -73,13 +77,14 @@ unfolding buildRefusal
 buildRefusal-ok code line carry yActive cActive yLaid cLaid yRoom cRoom e =
     let p = planOf code line in
     let z = orRefusal-none (lineRefusal code line) _ e in
-    let t = none-refused (lengthsOk p yActive yLaid && lengthsOk p cActive cLaid) _ (unmakeableRow p carry) (roomOk p yRoom cRoom) (z .1) in
+    let t = if-zero (lengthsOk p yActive yLaid && lengthsOk p cActive cLaid) _ 1 (z .1) in
+    let w = if-zero _ (madeRefusal p carry yRoom cRoom) 2 (t .1) in
     let l = and-true (lengthsOk p yActive yLaid) _ (t .0) in
-    let a = and-true (words10 yActive) _ (t .1) in
+    let a = and-true (words10 yActive) _ (w .0) in
     let b = and-true (words10 yLaid) _ (a .1) in
     let c = and-true (words10 cActive) _ (b .1) in
     let d = and-true (words10 cLaid) _ (c .1) in
-    let r = and-true (leb (p .places .total) yRoom) _ (t .2) in
+    let r = and-true (leb (p .places .total) yRoom) _ (room-left (unmakeableRow p carry) (roomOk p yRoom cRoom) (w .1)) in
     record {
       ok = z .0;
       y-lengths = l .0;
@@ -93,26 +98,18 @@ buildRefusal-ok code line carry yActive cActive yLaid cLaid yRoom cRoom e =
       c-room = leb-true (p .places .total) cRoom (r .1);
     }
 
--- a row that is built has its parts one after the other, and room for the words laid into its blanking
-pub buildRefusal-placed : (code line : ℕ) (carry : Carry) (yActive cActive yLaid cLaid : List ℕ) (yRoom cRoom : ℕ) (p : Plan)
+-- a row that is built has its parts in their places, and room for the words laid into its blanking
+pub buildRefusal-fits : (code line : ℕ) (carry : Carry) (yActive cActive yLaid cLaid : List ℕ) (yRoom cRoom : ℕ) (p : Plan)
     → p ≡ planOf code line
     → buildRefusal code line carry yActive cActive yLaid cLaid yRoom cRoom ≡ 0
-    → Placed (p .places) × (length yLaid ≤ p .places .blanks) × (length cLaid ≤ p .places .blanks)
-buildRefusal-placed code line carry yActive cActive yLaid cLaid yRoom cRoom p same e =
+    → Fits (p .places) × (length yLaid ≤ p .places .blanks) × (length cLaid ≤ p .places .blanks)
+buildRefusal-fits code line carry yActive cActive yLaid cLaid yRoom cRoom p same e =
     let b = buildRefusal-ok code line carry yActive cActive yLaid cLaid yRoom cRoom e in
-    let fits = planOf-fits code line (b .ok) in
-    let at = planOf code line .places in
+    let plan = planOf code line in
     rw same (
-      record {
-        lines = fits .lines;
-        crc = fits .crc;
-        checks = fits .checks;
-        blank = fits .blank;
-        sav = fits .sav;
-        active = fits .active;
-      },
-      leb-true _ _ (and-true (eqb (length yActive) (at .count)) _ (b .y-lengths) .1),
-      leb-true _ _ (and-true (eqb (length cActive) (at .count)) _ (b .c-lengths) .1),
+      planOf-fits code line (b .ok),
+      lengths-of plan yActive yLaid (b .y-lengths) .1,
+      lengths-of plan cActive cLaid (b .c-lengths) .1,
     )
 
 -- ---- what is answered where a row is refused: the refusal alone, with the buffers as they were

@@ -10,10 +10,10 @@ ghost use Prim.Native.Nat.{_≤_};
 ghost use lib.ListN.{length, take};
 ghost use Rattle.bits.specs.Words.{words10};
 ghost use Rattle.parts.specs.Parts.{laid, laidUnless};
+ghost use Rattle.plan.specs.Fits.{Fits};
 ghost use Rattle.plan.specs.Plan.{planOf};
 ghost use Rattle.stream.specs.Words.{headWords};
 ghost use Rattle.compose.specs.Compose.{buildRefusal, builtFor, cStream, crcFor, lengthsOk, madeRefusal, refusalUnder, streamOf, yStream};
-ghost use Rattle.compose.specs.Placed.{Placed};
 
 pub struct Built {
     pub refusal: u8,
@@ -49,7 +49,7 @@ fn lay_pair(out: &mut [u16], at: usize, count: usize, first: u16, second: u16)
 
 // EAV, line number and CRC at the start of a slice; the CRC is 200 200 where no register is known.
 fn lay_head(plan: Plan, known: bool, register: u32, out: &mut [u16])
-    requires { ⌜ Placed (plan .places) ⌝ }
+    requires { ⌜ Fits (plan .places) ⌝ }
     ensures { λ _. ⌜ now (out .exit) ≡ laid 0 (headWords plan ++ crcFor plan known register) (now (out .entry)) ⌝ }
 {
     let places = plan.places;
@@ -74,7 +74,7 @@ fn lay_stream(
     blanking: &[u16],
     out: &mut [u16],
 )
-    requires places { ⌜ Placed (plan .places) ⌝ }
+    requires places { ⌜ Fits (plan .places) ⌝ }
     requires room { ⌜ length (now blanking) ≤ plan .places .blanks ⌝ }
     ensures { λ _. ⌜ now (out .exit) ≡ laid 0 (streamOf plan known register blank (now (active .entry)) (now (blanking .entry))) (now (out .entry)) ⌝ }
 {

@@ -1,12 +1,14 @@
 -- The register stays below 2^18.
+use mathlib.Core.Path.{_≡_}
 use mathlib.Core.Bool.{Bool, true, false}
 use mathlib.Core.List.{List, [], _∷_}
 use Prim.Native.Nat.{ℕ, _/_, _^_, _<_}
 use native.Mathlib.Omega.{arith}
 use lib.Bits.{bitXor, xor-lt}
+use borrow.Author.Tests.{le-leb}
 use Rattle.bits.specs.Choice.{if}
 use Rattle.bits.specs.Bits.{_⊕_, odd, bits}
-use Rattle.crc.specs.Crc.{crcBit, crcBits, crcWord, crcWords}
+use Rattle.crc.specs.Crc.{crcBit, crcBits, crcWord, crcWords, crcStart, registerOk}
 
 pub crcBit-range : (r : ℕ) (b : Bool) → r < 2 ^ 18 → crcBit r b < 2 ^ 18
 unfolding crcBit
@@ -29,3 +31,6 @@ pub crcWords-range : (r : ℕ) (ws : List ℕ) → r < 2 ^ 18 → crcWords r ws 
 unfolding crcWords
 crcWords-range r [] h = h
 crcWords-range r (w ∷ ws) h = crcWords-range (crcWord r w) ws (crcWord-range r w h)
+
+pub crcWords-ok : (ws : List ℕ) → registerOk (crcWords crcStart ws) ≡ true
+crcWords-ok ws = le-leb (crcWords crcStart ws) 0x3ffff (omega (arith, crcWords-range crcStart ws (omega arith)))

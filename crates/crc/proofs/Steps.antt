@@ -10,28 +10,6 @@ use lib.Seq.{drop-cons, drop-length}
 use Rattle.bits.specs.Bits.{odd, bits, wordBits}
 use Rattle.crc.specs.Crc.{crcBit, crcBits, crcWord, crcWords}
 
--- ---- crcBits and crcWords by the first element
-
-pub crc-of-none : (r : ℕ) → crcBits r [] ≡ r
-unfolding crcBits
-crc-of-none r = refl
-
-pub crc-of-first : (r : ℕ) (b : Bool) (bs : List Bool) → crcBits r (b ∷ bs) ≡ crcBits (crcBit r b) bs
-unfolding crcBits
-crc-of-first r b bs = refl
-
-pub crcWord-bits : (r w : ℕ) → crcWord r w ≡ crcBits r (bits 10 w)
-unfolding crcWord
-crcWord-bits r w = refl
-
-pub crcWords-of-none : (r : ℕ) → crcWords r [] ≡ r
-unfolding crcWords
-crcWords-of-none r = refl
-
-pub crcWords-of-first : (r w : ℕ) (ws : List ℕ) → crcWords r (w ∷ ws) ≡ crcWords (crcWord r w) ws
-unfolding crcWords
-crcWords-of-first r w ws = refl
-
 -- ---- a turn of each loop, and its end
 
 pub crcWord-step : (r w i : ℕ) → i < 10 → crcBits r (bits (10 - i) w) ≡ crcBits (crcBit r (odd w)) (bits (10 - (i + 1)) (w / 2))

@@ -1,18 +1,13 @@
 -- When `ran` and `crWords` refuse, and the two CRC words of a register.
-use mathlib.Core.Path.{_≡_, refl, sym, ap, _∙_}
-use mathlib.Core.Bool.{Bool, true, false, _&&_}
+use mathlib.Core.Path.{_≡_, sym, ap, _∙_}
+use mathlib.Core.Bool.{true, false, and-false}
 use mathlib.Core.List.{List}
 use Prim.Native.Nat.{ℕ, _/_, _%_, _^_, _≤_, _<_}
 use native.Mathlib.Omega.{arith}
-use borrow.Author.Tests.{le-leb, lt-leb, leb-true}
-use Rattle.bits.specs.Choice.{if}
+use borrow.Author.Tests.{le-leb, lt-leb}
 use Rattle.bits.specs.Words.{words10, reservedCode}
-use Rattle.bits.proofs.Choice.{and-false}
 use Rattle.bits.proofs.Words.{nine-range, nine-low, nine-not-reserved}
-use Rattle.crc.specs.declared.Ran.{Ran}
-use Rattle.crc.specs.declared.CrcWords.{CrcWords}
 use Rattle.crc.specs.Crc.{crcWords, registerOk, ran, cr0, cr1, crWords}
-use Rattle.crc.proofs.Range.{crcWords-range}
 
 -- ---- ran: 0 exactly when the register is at most 3FFFF and no word is above 3FF, else 3
 
@@ -28,28 +23,6 @@ pub ran-words : (r : ℕ) (ws : List ℕ) → words10 ws ≡ false → ran r ws 
 unfolding ran
 ran-words r ws k = simp (k, and-false (registerOk r))
 
-pub ran-only : (r : ℕ) (ws : List ℕ) → ran r ws .refusal ≡ 0 → (r ≤ 0x3ffff) × (words10 ws ≡ true)
-unfolding ran
-ran-only r ws = go (registerOk r) (words10 ws) (leb-true r 0x3ffff)
-  where
-    go : (a b : Bool) → (a ≡ true → r ≤ 0x3ffff)
-        → (if {A = Ran} (a && b) (record { refusal = 0; register = crcWords r ws }) (record { refusal = 3; register = 0 })) .refusal ≡ 0
-        → (r ≤ 0x3ffff) × (b ≡ true)
-    go true true h e = (h refl, refl)
-    go true false h e = absurd (omega arith)
-    go false b h e = absurd (omega arith)
-
--- the register that is answered can be handed in again
-pub ran-range : (r : ℕ) (ws : List ℕ) → ran r ws .register < 2 ^ 18
-unfolding ran
-ran-range r ws = go (registerOk r) (words10 ws) (leb-true r 0x3ffff)
-  where
-    go : (a b : Bool) → (a ≡ true → r ≤ 0x3ffff)
-        → (if {A = Ran} (a && b) (record { refusal = 0; register = crcWords r ws }) (record { refusal = 3; register = 0 })) .register < 2 ^ 18
-    go true true h = crcWords-range r ws (omega (arith, h refl))
-    go true false h = omega arith
-    go false b h = omega arith
-
 -- ---- crWords: 0 exactly when the register is at most 3FFFF, else 3
 
 pub crWords-done : (r : ℕ) → r ≤ 0x3ffff → crWords r ≡ record { refusal = 0; cr0 = cr0 r; cr1 = cr1 r }
@@ -59,15 +32,6 @@ crWords-done r h = rw (le-leb r 0x3ffff h)
 pub crWords-register : (r : ℕ) → 0x3ffff < r → crWords r ≡ record { refusal = 3; cr0 = 0; cr1 = 0 }
 unfolding crWords
 crWords-register r h = rw (lt-leb r 0x3ffff h)
-
-pub crWords-only : (r : ℕ) → crWords r .refusal ≡ 0 → r ≤ 0x3ffff
-unfolding crWords
-crWords-only r = go (registerOk r) (leb-true r 0x3ffff)
-  where
-    go : (a : Bool) → (a ≡ true → r ≤ 0x3ffff)
-        → (if {A = CrcWords} a (record { refusal = 0; cr0 = cr0 r; cr1 = cr1 r }) (record { refusal = 3; cr0 = 0; cr1 = 0 })) .refusal ≡ 0 → r ≤ 0x3ffff
-    go true h e = h refl
-    go false h e = absurd (omega arith)
 
 -- ---- cr0 and cr1: ten-bit words, never reserved, and the register can be read back from them
 

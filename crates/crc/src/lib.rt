@@ -4,7 +4,7 @@ ghost use Rattle.bits.specs.Bits.{odd};
 ghost use Rattle.crc.specs.Crc.{crcBit, crcWord, crcWords, ran, crWords};
 
 // The highest register: eighteen ones.
-const REGISTER_TOP: u32 = 0x3ffff;
+pub const REGISTER_TOP: u32 = 0x3ffff;
 
 pub struct Ran {
     pub refusal: u8,

@@ -3,14 +3,14 @@ use mathlib.Core.Path.{_≡_, ap, _∙_}
 use mathlib.Core.List.{List, [], _∷_, append-nil, flatMap}
 use Prim.Native.Nat.{ℕ}
 use native.Mathlib.Omega.{arith}
-use Rattle.stepper.specs.Step.{totalOf}
+use Rattle.raster.specs.Table.{totalOf}
 use Rattle.session.specs.Session.{ended}
 use Rattle.module.specs.Module.{moduleOf}
 use Rattle.module.specs.Runs.{Bench, fedAll, started}
 use Rattle.module.proofs.Refusals.{begin-taken, feed-taken}
 use Rattle.module.proofs.Between.{begun-opens}
 use Rattle.module.proofs.Own.{total-of-meant}
-use Rattle.files.specs.Promises.{inOne}
+use Rattle.parts.specs.Parts.{endToEnd}
 use Rattle.demands.specs.Demands.{endOf, FeedsCut, sound, TakenAlone, VerdictOwn}
 use Rattle.demands.proofs.FeedsCut.{feeds-cut}
 use Rattle.demands.proofs.TakenAlone.{taken-alone}
@@ -18,7 +18,7 @@ use Rattle.demands.proofs.TakenAlone.{taken-alone}
 pub verdict-own : VerdictOwn
 unfolding VerdictOwn FeedsCut TakenAlone fedAll flatMap
 verdict-own code feeds x runs =
-    let ws = inOne feeds in
+    let ws = endToEnd feeds in
     let b = begin-taken (x .session) code (runs .0) in
     let ready = feed-taken (started code x .session) ws (x .y) (x .c) (runs .1) in
     let room = ready .0 in

@@ -12,7 +12,7 @@ use Rattle.bits.specs.Choice.{if}
 use Rattle.bits.specs.Bits.{wordBits}
 use Rattle.bits.specs.Words.{words10}
 use Rattle.raster.specs.Layout.{syncOf, hdUnit}
-use Rattle.raster.specs.Table.{meant, rasterOk, lookedUp}
+use Rattle.raster.specs.Table.{meant, rasterOk, lookedUp, totalOf}
 use Rattle.raster.specs.Lines.{lineOk, lineFacts}
 use Rattle.crc.specs.Crc.{registerOk, ran, crWords}
 use Rattle.cable.specs.Words.{scrambleWords, unscrambleWords, scrambleNext, unscrambleNext, codeRefusal, coded, filled}
@@ -21,7 +21,7 @@ use Rattle.align.specs.Sync.{startsWith, syncRefusal, syncPlace, foundSync}
 use Rattle.timing.specs.declared.Timing.the-variants.{Exact}
 use Rattle.timing.specs.Xyz.{xyzOf, readXyz, told}
 use Rattle.timing.specs.Line.{lineWords, lineRead}
-use Rattle.parts.specs.Parts.{part, any, laid, unlessRefused, laidUnless}
+use Rattle.parts.specs.Parts.{part, any, laid, endToEnd, unlessRefused, laidUnless}
 use Rattle.plan.specs.Plan.{planOf}
 use Rattle.plan.specs.Refusal.{rowRefusal}
 use Rattle.packet.specs.Build as Packet
@@ -40,7 +40,6 @@ use Rattle.rowlaws.specs.Lawful.{rightPacket}
 use Rattle.burst.specs.Stretch.{crcFlagged, BurstFlagged}
 use Rattle.tally.specs.declared.Verdict.the-variants.{NoSignal}
 use Rattle.tally.specs.Tally.{noCounts}
-use Rattle.stepper.specs.Step.{totalOf}
 use Rattle.session.specs.declared.Session.{Session}
 use Rattle.session.specs.declared.Ended.{Ended}
 use Rattle.session.specs.Session.{closed, inRange, beginRefusal, begun, feedRefusal, fed, ended}
@@ -58,7 +57,7 @@ use Rattle.jobs.specs.declared.Desk.{Desk}
 use Rattle.jobs.specs.Desk as Desk
 use Rattle.files.specs.File.{outcomesOf}
 use Rattle.files.specs.Serving.{afterTake}
-use Rattle.files.specs.Promises.{inOne, NeverRefused, ServedAlike, PiecesServed, BenchPrints, JobAlone, RefusedAlone}
+use Rattle.files.specs.Promises.{NeverRefused, ServedAlike, PiecesServed, BenchPrints, JobAlone, RefusedAlone}
 use Rattle.lineuses.specs.Laid.{LawfulLine, PlaceAfter}
 use Rattle.lineuses.specs.Struck.{total, nextChecked, TwoRows, Struck}
 use Rattle.sessionuses.specs.Uses.{Fits}
@@ -212,12 +211,12 @@ Runs code ws x = (beginRefusal (x .session) code ≡ 0) × (feedRefusal (started
 
 -- the answer is that of the raster and the words, in whatever feeds they come: in `moduleOf` there is no session and no buffer
 unfoldable pub VerdictOwn : Type 0
-VerdictOwn = (code : ℕ) (feeds : List (List ℕ)) (x : Bench) → Runs code (inOne feeds) x → answered code feeds x ≡ endOf (moduleOf code (inOne feeds))
+VerdictOwn = (code : ℕ) (feeds : List (List ℕ)) (x : Bench) → Runs code (endToEnd feeds) x → answered code feeds x ≡ endOf (moduleOf code (endToEnd feeds))
 
 -- so two runs of the same raster and words answer the same: cut anywhere, in any buffers, after any module
 unfoldable pub SameVerdict : Type 0
-SameVerdict = (code : ℕ) (feeds others : List (List ℕ)) (x z : Bench) → Runs code (inOne feeds) x → Runs code (inOne others) z
-    → inOne feeds ≡ inOne others → answered code feeds x ≡ answered code others z
+SameVerdict = (code : ℕ) (feeds others : List (List ℕ)) (x z : Bench) → Runs code (endToEnd feeds) x → Runs code (endToEnd others) z
+    → endToEnd feeds ≡ endToEnd others → answered code feeds x ≡ answered code others z
 
 -- a bench between modules: no session is open, and its numbers are in range
 abbrev pub Between : Bench → Type 0
@@ -356,7 +355,7 @@ CorrectedFlags = (code line : ℕ) (carry : Carry) (wipe : Bool) (y c : List ℕ
 
 -- "Cutting the words anywhere into feeds changes nothing.": where all of them are taken in one feed, pieces of them leave the same
 unfoldable pub FeedsCut : Type 0
-FeedsCut = (feeds : List (List ℕ)) (x : Bench) → feedRefusal (x .session) (inOne feeds) (x .y) (x .c) ≡ 0 → fedAll feeds x ≡ fedOnce (inOne feeds) x
+FeedsCut = (feeds : List (List ℕ)) (x : Bench) → feedRefusal (x .session) (endToEnd feeds) (x .y) (x .c) ≡ 0 → fedAll feeds x ≡ fedOnce (endToEnd feeds) x
 
 -- A clean signal passes: N + 2 lines built one after the other, the first without a carry, each other with that of the line before, of words and
 -- packets as above, in which no word after the 000 3FF 3FF is a reserved code; after bits without a sync, and before fewer than 53 bits, or fewer

@@ -10,7 +10,7 @@ use lib.Seq.{drop-set-lt}
 use borrow.Author.Tests.{ltb-true}
 use Rattle.bits.specs.Choice.{if}
 use Rattle.bits.specs.Bits.{wordBits}
-use Rattle.raster.specs.Table.{rasterOk}
+use Rattle.raster.specs.Table.{rasterOk, totalOf}
 use Rattle.raster.proofs.Table.{lookedUp-range, lookedUp-refused}
 use Rattle.cable.specs.Words.{unscrambleWords}
 use Rattle.parts.specs.Parts.{unlessRefused}
@@ -20,7 +20,7 @@ use Rattle.recogniser.specs.declared.Event.{Event}
 use Rattle.recogniser.specs.declared.Event.the-variants.{Outside, Within, Pair, Opens, Whole, Early, Late, Astray}
 use Rattle.recogniser.specs.Sight.{cWord, yWord}
 use Rattle.laying.specs.Laying.{pairLaid, laidBy}
-use Rattle.stepper.specs.Step.{Run, run, totalOf, recognised, stepped, steps}
+use Rattle.stepper.specs.Step.{Run, run, recognised, stepped, steps}
 use Rattle.session.specs.declared.Session.{Session}
 use Rattle.session.specs.Session.{feedRefusal, fedRun, fedY, fedC}
 use Rattle.module.proofs.Folds.{steps-keep}

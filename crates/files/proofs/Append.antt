@@ -7,8 +7,7 @@ use lib.ListN.{length, length-append}
 use Rattle.jobs.specs.declared.Job.{Job}
 use Rattle.jobs.specs.Desk.{done}
 use Rattle.line.specs.Line.{lineOf}
-use Rattle.files.specs.File.{Got, got, cut, wrong, jobRead, Ending, whole, cutShort, refusedBy, Contents, contents, followedBy, contentsBy}
-use Rattle.files.specs.File.{readIn, contentsOf, outcomesIn, outcomesOf, benchOf}
+use Rattle.files.specs.File.{Got, got, cut, wrong, jobRead, Ending, whole, cutShort, refusedBy, Contents, contents, followedBy, contentsBy, readIn, contentsOf, outcomesIn, outcomesOf, benchOf}
 use Rattle.files.specs.Promises.{FilesAppend, RefusedAlone, JobAlone}
 use Rattle.files.proofs.Reading.{of-got, of-cut, of-wrong}
 use Rattle.files.proofs.Fuel.{Leaves, job-leaves-fewer, readIn-enough}

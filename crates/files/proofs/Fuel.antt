@@ -7,8 +7,7 @@ use lib.ListN.{length}
 use Rattle.reader.specs.Reader.{tagSizeOk, printable, optionsSizeOk, wipeOk, wordOf, wordOk}
 use Rattle.raster.specs.Table.{rasterOk}
 use Rattle.jobs.specs.declared.Job.{Job}
-use Rattle.files.specs.File.{Got, got, cut, wrong, byteRead, countRead, tagBytesRead, tagRead, optionsOf, optionsRead, wordsRead, jobRead}
-use Rattle.files.specs.File.{Contents, contentsBy, followedBy, readIn, contentsOf}
+use Rattle.files.specs.File.{Got, got, cut, wrong, byteRead, countRead, tagBytesRead, tagRead, optionsOf, optionsRead, wordsRead, jobRead, Contents, contentsBy, followedBy, readIn, contentsOf}
 use Rattle.files.proofs.Reading.{Reads, of-got, of-cut, of-wrong, reads-then, reads-if}
 
 -- ---- what is read leaves at most n bytes

@@ -8,6 +8,7 @@ use lib.ListN.{length, replicate}
 use lib.Seq.{take-append-seam}
 use borrow.Author.Tests.{leb-true}
 use Rattle.bits.proofs.Choice.{and-true}
+use Rattle.parts.specs.Parts.{endToEnd}
 use Rattle.reader.specs.Reader.{tagSizeOk, printable}
 use Rattle.jobs.specs.declared.Job.{Job}
 use Rattle.jobs.specs.declared.Outcome.{Outcome}
@@ -15,10 +16,9 @@ use Rattle.jobs.specs.Desk.{done, badFile}
 use Rattle.line.specs.Line.{lineOf, tagText}
 use Rattle.line.proofs.Boxing.{text-of-boxed}
 use Rattle.line.proofs.Lengths.{length-of-lineOf}
-use Rattle.files.specs.File.{Got, got, cut, wrong, byteRead, countRead, tagBytesRead, tagRead, optionsRead, wordsRead, tagOf, jobRead}
-use Rattle.files.specs.File.{contentsBy, readIn, Contents, outcomesIn, outcomesOf, benchOf}
+use Rattle.files.specs.File.{Got, got, cut, wrong, byteRead, countRead, tagBytesRead, tagRead, optionsRead, wordsRead, tagOf, jobRead, contentsBy, readIn, Contents, outcomesIn, outcomesOf, benchOf}
 use Rattle.files.specs.Serving.{printed}
-use Rattle.files.specs.Promises.{inOne, BenchPrints}
+use Rattle.files.specs.Promises.{BenchPrints}
 use Rattle.files.proofs.Reading.{Reads, of-got, of-cut, of-wrong, reads-then, reads-if}
 use Rattle.files.proofs.Pieces.{pieces-served}
 
@@ -87,4 +87,4 @@ unfolding outcomesOf
 lines-whole bs = contents-whole (length bs) bs
 
 pub bench-prints : BenchPrints
-bench-prints pieces s y c room = ap (flatMap printed) (pieces-served pieces s y c room) ∙ lines-whole (inOne pieces)
+bench-prints pieces s y c room = ap (flatMap printed) (pieces-served pieces s y c room) ∙ lines-whole (endToEnd pieces)

@@ -23,8 +23,7 @@ use Rattle.reader.specs.declared.Reader.{Reader}
 use Rattle.reader.specs.declared.Piece.{Piece}
 use Rattle.reader.specs.declared.Piece.the-variants.{More, Chosen, Word, Refused}
 use Rattle.reader.specs.declared.Read.{Read}
-use Rattle.reader.specs.Reader.{tagSizeOk, printable, optionsSizeOk, wipeOk, wordOf, wordOk, reader, counted, readOf}
-use Rattle.reader.specs.Reader.{ofTagCount, ofTagByte, ofOptionsCount, ofWipeByte, ofWordCount, ofHighByte}
+use Rattle.reader.specs.Reader.{tagSizeOk, printable, optionsSizeOk, wipeOk, wordOf, wordOk, reader, counted, readOf, ofTagCount, ofTagByte, ofOptionsCount, ofWipeByte, ofWordCount, ofHighByte}
 use Rattle.jobs.specs.declared.Desk.{Desk}
 use Rattle.jobs.specs.Desk.{turned, sessionAfter, yAfter, cAfter, wordsAt, turnBy}
 use Rattle.files.specs.Promises.{Roomy}

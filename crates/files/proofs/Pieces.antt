@@ -4,13 +4,14 @@ use mathlib.Core.List.{List, [], _∷_, _++_, flatMap}
 use Prim.Native.Nat.{ℕ, zero, suc, _+_, _≤_}
 use native.Mathlib.Omega.{arith}
 use lib.ListN.{length, drop, length-drop}
+use Rattle.parts.specs.Parts.{endToEnd}
 use Rattle.jobs.specs.declared.Job.{Job}
 use Rattle.jobs.specs.declared.Kind.{Kind}
 use Rattle.jobs.specs.declared.Kind.the-variants.{Nothing, Done, BadFile}
 use Rattle.jobs.specs.declared.Outcome.{Outcome}
 use Rattle.jobs.specs.Desk.{Walk, walk, walked, walkOf, takeRefusal, brought, taken, takenY, takenC, finished, Standing, standing, next}
 use Rattle.files.specs.Serving.{told, after, answers, Served, served, alsoTold, servedIn, servedAll}
-use Rattle.files.specs.Promises.{between, inOne, ServedAlike, PiecesServed}
+use Rattle.files.specs.Promises.{between, ServedAlike, PiecesServed}
 use Rattle.files.proofs.Cuts.{cut-anywhere}
 use Rattle.files.proofs.FileRead.{file-read}
 use Rattle.files.proofs.NeverRefused.{never-refused}
@@ -87,11 +88,11 @@ piece-served (suc k) (b ∷ bs) x l h =
 
 -- ---- piece after piece
 
-all-served : (pieces : List (List ℕ)) (x : Standing) → Calm x → servedAll pieces x ≡ served (after (inOne pieces) x) (answers (inOne pieces) x)
+all-served : (pieces : List (List ℕ)) (x : Standing) → Calm x → servedAll pieces x ≡ served (after (endToEnd pieces) x) (answers (endToEnd pieces) x)
 unfolding servedAll flatMap after answers
 all-served [] x h = refl
 all-served (p ∷ ps) x h =
-    let cuts = cut-anywhere p (inOne ps) x in
+    let cuts = cut-anywhere p (endToEnd ps) x in
     ap (λ (s : Served). alsoTold (s .outcomes) (servedAll ps (s .standing))) (piece-served (length p) p x (omega arith) h)
     ∙ ap (alsoTold (answers p x)) (all-served ps (after p x) calm-after)
     ∙ sym (ap₂ served (cuts .0) (cuts .1))
@@ -105,4 +106,4 @@ served-alike pieces s y c room = all-served pieces (between s y c) (λ bs. never
 pub pieces-served : PiecesServed
 pieces-served pieces s y c room =
     ap (λ (x : Served). x .outcomes ++ told (finished (x .standing .desk))) (served-alike pieces s y c room)
-    ∙ file-read (inOne pieces) s y c room
+    ∙ file-read (endToEnd pieces) s y c room

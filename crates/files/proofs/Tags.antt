@@ -14,8 +14,7 @@ use Rattle.session.specs.declared.Session.{Session}
 use Rattle.reader.specs.declared.Stage.the-variants.{TagCount, TagBytes, OptionsCount}
 use Rattle.reader.specs.declared.Options.{Options}
 use Rattle.reader.specs.declared.Piece.the-variants.{More}
-use Rattle.reader.specs.Reader.{tagSizeOk, printable, count, options, noTag, fresh, goesOn, brings, refused}
-use Rattle.reader.specs.Reader.{ofTagCount, tagWith, tagged, ofTagByte, readOf, isCut}
+use Rattle.reader.specs.Reader.{tagSizeOk, printable, count, options, noTag, fresh, goesOn, brings, refused, ofTagCount, tagWith, tagged, ofTagByte, readOf, isCut}
 use Rattle.jobs.specs.declared.Outcome.{Outcome}
 use Rattle.files.specs.File.{byteRead, tagOf, tagBytesRead, tagRead}
 use Rattle.files.specs.Serving.{toldOf}

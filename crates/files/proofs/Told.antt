@@ -12,7 +12,6 @@ use Rattle.reader.specs.declared.Options.{Options}
 use Rattle.reader.specs.declared.Read.{Read}
 use Rattle.reader.specs.Reader.{reader, stopped, readOf, isCut}
 use Rattle.jobs.specs.declared.Outcome.{Outcome}
-use Rattle.jobs.specs.declared.Turn.{Turn}
 use Rattle.jobs.specs.Desk.{desk, badFile, sessionAfter, yAfter, cAfter, turnBy, turned, turnedY, turnedC, finished, Standing, standing, next}
 use Rattle.files.specs.File.{Got, byteRead}
 use Rattle.files.specs.Serving.{told, after, answers, toldOf}
@@ -28,15 +27,12 @@ at stage n low t o s y c = standing (desk (reader stage n low t o) s) y c
 
 -- ---- a byte
 
--- what a byte leads to by what it brought
-abbrev turnOf : Read → Standing → Turn
-turnOf r x = turnBy (r .ends) (x .desk .reader) r (sessionAfter (r .piece) (x .desk .session) (x .y) (x .c))
-
--- .. and what is told then, with the bytes after it
+-- what is told of a byte by what it brought, and of the bytes after it
 abbrev pub toldAfter : Read → Standing → List ℕ → List Outcome
 toldAfter r x rest =
-    told (turnOf r x .outcome)
-    ++ toldOf rest (standing (turnOf r x .desk) (yAfter (r .piece) (x .desk .session) (x .y) (x .c)) (cAfter (r .piece) (x .desk .session) (x .y) (x .c)))
+    let turn = turnBy (r .ends) (x .desk .reader) r (sessionAfter (r .piece) (x .desk .session) (x .y) (x .c)) in
+    told (turn .outcome)
+    ++ toldOf rest (standing (turn .desk) (yAfter (r .piece) (x .desk .session) (x .y) (x .c)) (cAfter (r .piece) (x .desk .session) (x .y) (x .c)))
 
 abbrev pub AfterByte : List Outcome → Standing → ℕ → List ℕ → Type 0
 AfterByte os x b rest = os ≡ toldAfter (readOf (x .desk .reader) b) x rest

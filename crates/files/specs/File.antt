@@ -1,9 +1,8 @@
 -- What a bench file means: its outcomes and what is printed, from its bytes alone.
-use mathlib.Core.List.{List, [], _∷_, _++_}
+use mathlib.Core.List.{List, [], _∷_, _++_, map, flatMap}
 use Prim.Native.Nat.{ℕ, zero, suc, _+_, _-_, _*_}
 use lib.Dec.{eqb}
 use lib.ListN.{length, replicate}
-use mathlib.Core.List.{map, flatMap}
 use Rattle.bits.specs.Choice.{if}
 use Rattle.raster.specs.Table.{rasterOk}
 use Rattle.module.specs.Module.{Answer, moduleOf}

@@ -1,9 +1,9 @@
 -- What is promised of a bench file. proofs/ proves each.
 use mathlib.Core.Path.{_≡_}
-use mathlib.Core.List.{List, [], _∷_, _++_}
+use mathlib.Core.List.{List, [], _∷_, _++_, flatMap}
 use Prim.Native.Nat.{ℕ, _≤_}
 use lib.ListN.{length}
-use mathlib.Core.List.{flatMap}
+use Rattle.parts.specs.Parts.{endToEnd}
 use Rattle.session.specs.declared.Session.{Session}
 use Rattle.reader.specs.Reader.{fresh}
 use Rattle.jobs.specs.Desk.{desk, Standing, standing, longest, takeRefusal}
@@ -17,9 +17,6 @@ between s y c = standing (desk fresh s) y c
 -- buffers that hold any raster's row
 abbrev pub Roomy : List ℕ → List ℕ → Type 0
 Roomy y c = (longest ≤ length y) × (longest ≤ length c)
-
-abbrev pub inOne : List (List ℕ) → List ℕ
-inOne pieces = flatMap (λ p. p) pieces
 
 -- The outcomes are those of the file's bytes.
 abbrev pub FileRead : Type 0
@@ -38,17 +35,17 @@ NeverRefused = (bs : List ℕ) (s : Session) (y c : List ℕ) → Roomy y c
 -- Calls of take, in whatever pieces the bytes arrive, come to the same: where the desk stands, what the buffers hold, what was told.
 abbrev pub ServedAlike : Type 0
 ServedAlike = (pieces : List (List ℕ)) (s : Session) (y c : List ℕ) → Roomy y c
-    → servedAll pieces (between s y c) ≡ served (after (inOne pieces) (between s y c)) (answers (inOne pieces) (between s y c))
+    → servedAll pieces (between s y c) ≡ served (after (endToEnd pieces) (between s y c)) (answers (endToEnd pieces) (between s y c))
 
 -- .. so with the end of the input the outcomes are those of the file's bytes,
 abbrev pub PiecesServed : Type 0
 PiecesServed = (pieces : List (List ℕ)) (s : Session) (y c : List ℕ) → Roomy y c
-    → toldInPieces pieces (between s y c) ≡ outcomesOf (inOne pieces)
+    → toldInPieces pieces (between s y c) ≡ outcomesOf (endToEnd pieces)
 
 -- and what is printed, line by line, is `benchOf`: every line fits into its box.
 abbrev pub BenchPrints : Type 0
 BenchPrints = (pieces : List (List ℕ)) (s : Session) (y c : List ℕ) → Roomy y c
-    → flatMap printed (toldInPieces pieces (between s y c)) ≡ benchOf (inOne pieces)
+    → flatMap printed (toldInPieces pieces (between s y c)) ≡ benchOf (endToEnd pieces)
 
 -- Of a file read to its end with no refusal, the output of it followed by another file is its output followed by the other's.
 abbrev pub FilesAppend : Type 0

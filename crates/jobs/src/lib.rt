@@ -7,7 +7,7 @@ use session::Session;
 use tally::Counts;
 use tally::Verdict;
 ghost use mathlib.Core.Path.{_≡_};
-ghost use Rattle.jobs.specs.Desk.{cAfter, finished, freshDesk, isNothing, jobless, outcomeOf, sessionAfter, taken, takenC, takenY, takeRefusal, turnBy, turned, turnedC, turnedY, wordsAt, yAfter};
+ghost use Rattle.jobs.specs.Desk.{cAfter, finished, freshDesk, isNothing, jobless, outcomeOf, sessionAfter, taken, takenC, takenY, takeRefusal, turned, turnedC, turnedY, wordsAt, yAfter};
 
 pub struct Job {
     pub tag: Tag,
@@ -36,9 +36,9 @@ pub struct Desk {
     pub session: Session,
 }
 
-pub struct Turn {
-    pub desk: Desk,
-    pub outcome: Outcome,
+struct Turn {
+    desk: Desk,
+    outcome: Outcome,
 }
 
 // How many bytes were taken: up to the one that ends a job or is refused, or all.
@@ -116,6 +116,9 @@ fn words_at(stage: Stage) -> bool
 }
 
 impl Desk {
+    // T of the longest row in the table.
+    pub const LONGEST: usize = 4125;
+
     // Before the first job.
     pub fn fresh() -> Desk
         ensures { λ r. ⌜ r ≡ freshDesk ⌝ }
@@ -175,10 +178,10 @@ impl Desk {
                 return 7;
             }
         }
-        if y.len() < 4125 {
+        if y.len() < Desk::LONGEST {
             return 1;
         }
-        if c.len() < 4125 {
+        if c.len() < Desk::LONGEST {
             return 1;
         }
         0

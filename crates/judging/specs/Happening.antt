@@ -5,7 +5,7 @@ use lib.Dec.{ltb}
 use lib.ListN.{getD}
 use Rattle.bits.specs.Choice.{if}
 use Rattle.raster.specs.Layout.{lineAt}
-use Rattle.raster.specs.Table.{lookedUp}
+use Rattle.raster.specs.Table.{lookedUp, rowsOf}
 use Rattle.timing.specs.Line.{lineRead}
 use Rattle.row.specs.declared.Carry.{Carry}
 use Rattle.row.specs.declared.Carry.the-variants.{Nothing}
@@ -31,7 +31,7 @@ lineOf code (suc n) y = suc n
 
 -- "then goes up by one and from N to 1"
 abbrev pub lineAfter : ℕ → ℕ → ℕ
-lineAfter code line = if (ltb line (lookedUp code .raster .rows)) (line + 1) 1
+lineAfter code line = if (ltb line (rowsOf code)) (line + 1) 1
 
 -- "is then judged": its line and flags, and whether its CRC could be judged; "check .. answer[s] the next [carry]"
 abbrev pub rowJudged : ℕ → ℕ → Carry → Judged → Happened

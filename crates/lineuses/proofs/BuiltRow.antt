@@ -1,17 +1,14 @@
 -- A row that is built, and checked with the same carry.
 use mathlib.Core.Path.{_≡_, refl, sym, ap, ap₂, _∙_}
-use mathlib.Core.Bool.{true}
 use mathlib.Core.List.{List}
 use Prim.Native.Nat.{ℕ, zero, suc, _≤_}
 use native.Mathlib.Omega.{arith}
-use lib.Dec.{eqb}
 use lib.ListN.{length}
 use lib.Seq.{length-take-le}
-use borrow.Author.Tests.{eqb-true, leb-true}
-use Rattle.bits.proofs.Choice.{and-true}
 use Rattle.parts.specs.Parts.{laidUnless, part}
 use Rattle.parts.proofs.Laid.{part-over-laid, unlessRefused-refused}
 use Rattle.plan.specs.declared.Plan.{Plan}
+use Rattle.plan.specs.Fits.{Fits}
 use Rattle.plan.specs.Plan.{planOf}
 use Rattle.plan.proofs.Plans.{planOf-fits}
 use Rattle.plan.proofs.Rows.{RowFits}
@@ -23,7 +20,7 @@ use Rattle.row.specs.Before.{carried}
 use Rattle.row.specs.Row.{checked, flagsOf}
 use Rattle.compose.specs.declared.Built.{Built}
 use Rattle.compose.specs.Compose.{buildRefusal, builtFor, cStream, lengthsOk, yStream}
-use Rattle.compose.proofs.Refusal.{buildRefusal-ok}
+use Rattle.compose.proofs.Refusal.{Buildable, buildRefusal-ok, lengths-of}
 use Rattle.rowlaws.proofs.BuiltParts.{length-streamOf, registerAfter-streamOf}
 use Rattle.rowlaws.proofs.NoFlag.{built-no-flag}
 use Rattle.lineuses.specs.Laid.{LawfulLine}
@@ -37,11 +34,6 @@ builtFor-number (suc n) yActive cActive = refl
 builtFor-refused : (n : ℕ) (yActive cActive : List ℕ) → (n ≡ 0 → ⊥) → builtFor n yActive cActive .carry ≡ Nothing
 builtFor-refused zero yActive cActive bad = absurd (bad refl)
 builtFor-refused (suc n) yActive cActive bad = refl
-
-lengths-of : (p : Plan) (active laid : List ℕ) → lengthsOk p active laid ≡ true → (length active ≡ p .places .count) × (length laid ≤ p .places .blanks)
-lengths-of p active laid e =
-    let b = and-true (eqb (length active) (p .places .count)) _ e in
-    (eqb-true _ _ (b .0), leb-true _ _ (b .1))
 
 module _ (code line : ℕ) (carry : Carry) (yActive cActive yLaid cLaid y c : List ℕ) where
   abbrev refusal : ℕ
@@ -74,43 +66,45 @@ module _ (code line : ℕ) (carry : Carry) (yActive cActive yLaid cLaid y c : Li
   -- ---- without one, the first T words are the row
 
   module _ (ok : refusal ≡ 0) where
+    from : Buildable code line carry yActive cActive yLaid cLaid (length y) (length c)
+    from = buildRefusal-ok code line carry yActive cActive yLaid cLaid (length y) (length c) ok
+
+    fits : Fits (plan .places)
+    fits = planOf-fits code line (from .ok)
+
+    long-y : (length yActive ≡ plan .places .count) × (length yLaid ≤ plan .places .blanks)
+    long-y = lengths-of plan yActive yLaid (from .y-lengths)
+
+    long-c : (length cActive ≡ plan .places .count) × (length cLaid ≤ plan .places .blanks)
+    long-c = lengths-of plan cActive cLaid (from .c-lengths)
+
     built-fits : RowFits code line inY inC
     built-fits =
-        let b = buildRefusal-ok code line carry yActive cActive yLaid cLaid (length y) (length c) ok in
-        let fits = planOf-fits code line (b .ok) in
-        let ly = lengths-of plan yActive yLaid (b .y-lengths) in
-        let lc = lengths-of plan cActive cLaid (b .c-lengths) in
         let known = carried carry .known in
         record {
-          ok = b .ok;
-          y-length = length-streamOf plan fits known (carried carry .y) yBlank yActive yLaid (ly .0) (ly .1);
-          c-length = length-streamOf plan fits known (carried carry .c) cBlank cActive cLaid (lc .0) (lc .1);
-          y-words = tens-streamOf code line (b .ok) known (carried carry .y) yBlank yActive yLaid (omega arith) (b .y-active) (b .y-laid);
-          c-words = tens-streamOf code line (b .ok) known (carried carry .c) cBlank cActive cLaid (omega arith) (b .c-active) (b .c-laid);
+          ok = from .ok;
+          y-length = length-streamOf plan fits known (carried carry .y) yBlank yActive yLaid (long-y .0) (long-y .1);
+          c-length = length-streamOf plan fits known (carried carry .c) cBlank cActive cLaid (long-c .0) (long-c .1);
+          y-words = tens-streamOf code line (from .ok) known (carried carry .y) yBlank yActive yLaid (omega arith) (from .y-active) (from .y-laid);
+          c-words = tens-streamOf code line (from .ok) known (carried carry .c) cBlank cActive cLaid (omega arith) (from .c-active) (from .c-laid);
         }
 
     built-y : part 0 (plan .places .total) (laidUnless refusal inY y) ≡ inY
     built-y =
-        let b = buildRefusal-ok code line carry yActive cActive yLaid cLaid (length y) (length c) ok in
-        rw ok (part-over-laid 0 (plan .places .total) inY y (built-fits .y-length ∙ sym (length-take-le (plan .places .total) y (b .y-room))))
+        rw ok (part-over-laid 0 (plan .places .total) inY y (built-fits .y-length ∙ sym (length-take-le (plan .places .total) y (from .y-room))))
 
     built-c : part 0 (plan .places .total) (laidUnless refusal inC c) ≡ inC
     built-c =
-        let b = buildRefusal-ok code line carry yActive cActive yLaid cLaid (length y) (length c) ok in
-        rw ok (part-over-laid 0 (plan .places .total) inC c (built-fits .c-length ∙ sym (length-take-le (plan .places .total) c (b .c-room))))
+        rw ok (part-over-laid 0 (plan .places .total) inC c (built-fits .c-length ∙ sym (length-take-le (plan .places .total) c (from .c-room))))
 
     built-row : checked code line carry inY inC
         ≡ record { refusal = 0; flags = flagsOf plan carry inY inC; carry = builtFor 0 yActive cActive .carry }
     built-row =
-        let b = buildRefusal-ok code line carry yActive cActive yLaid cLaid (length y) (length c) ok in
-        let fits = planOf-fits code line (b .ok) in
-        let ly = lengths-of plan yActive yLaid (b .y-lengths) in
-        let lc = lengths-of plan cActive cLaid (b .c-lengths) in
         let known = carried carry .known in
-        row-checked code line inY inC built-fits carry (b .registers)
+        row-checked code line inY inC built-fits carry (from .registers)
         ∙ ap₂ (λ (q r : ℕ). record { refusal = 0; flags = flagsOf plan carry inY inC; carry = Registers q r })
-        (registerAfter-streamOf plan fits known (carried carry .y) yBlank yActive yLaid (ly .0) (ly .1))
-        (registerAfter-streamOf plan fits known (carried carry .c) cBlank cActive cLaid (lc .0) (lc .1))
+        (registerAfter-streamOf plan fits known (carried carry .y) yBlank yActive yLaid (long-y .0) (long-y .1))
+        (registerAfter-streamOf plan fits known (carried carry .c) cBlank cActive cLaid (long-c .0) (long-c .1))
 
   -- ---- the calls, one after the other
 
@@ -145,9 +139,9 @@ module _ (code line : ℕ) (carry : Carry) (yActive cActive yLaid cLaid y c : Li
 
       pub row-clean : (yPackets cPackets : List (List ℕ)) → LawfulLine yActive cActive yLaid cLaid yPackets cPackets → seen .flags ≡ 0
       row-clean yPackets cPackets l =
-          let b = buildRefusal-ok code line carry yActive cActive yLaid cLaid (length y) (length c) ok in
-          let clean = built-no-flag code line carry yActive cActive yPackets cPackets (b .ok) (b .registers)
-          (ap (lengthsOk plan yActive) (sym (l .y-laid)) ∙ b .y-lengths) (ap (lengthsOk plan cActive) (sym (l .c-laid)) ∙ b .c-lengths)
+          let made = from ok in
+          let clean = built-no-flag code line carry yActive cActive yPackets cPackets (made .ok) (made .registers)
+          (ap (lengthsOk plan yActive) (sym (l .y-laid)) ∙ made .y-lengths) (ap (lengthsOk plan cActive) (sym (l .c-laid)) ∙ made .c-lengths)
           (l .y-right) (l .c-right) (l .y-plain) (l .c-plain) in
           ap (λ r. r .flags) row-seen
           ∙ ap₂ (λ (a z : List ℕ). flagsOf plan carry (yStream plan carry yActive a) (cStream plan carry cActive z)) (l .y-laid) (l .c-laid)

@@ -12,12 +12,11 @@ use Rattle.bits.specs.Bits.{bits, number, wordBits}
 use Rattle.bits.specs.Words.{words10}
 use Rattle.bits.proofs.Bits.{length-bits, length-wordBits, number-bits}
 use Rattle.bits.proofs.Lists.{cons-equal}
-use Rattle.bits.proofs.Words.{words10-cons, words10-head, words10-tail}
+use Rattle.bits.proofs.Words.{tens-drop, words10-cons, words10-head, words10-tail}
 use Rattle.cable.specs.Channels.{channelBits, paired}
 use Rattle.cable.specs.Words.{grouped}
 use Rattle.cable.proofs.Channels.{channel-of-words}
 use Rattle.burst.specs.Stretch.{channelWords}
-use Rattle.lineuses.proofs.Tens.{tens-drop}
 
 -- ---- a turn of the loop, and its end
 

@@ -1,24 +1,22 @@
 -- A packet that is built, laid into the blanking of Y after whole packets of which none is wanted, and found again.
 use mathlib.Core.Path.{_≡_, refl, sym, ap, ap₂, _∙_}
-use mathlib.Core.Bool.{Bool, true, false, not, _||_}
+use mathlib.Core.Bool.{Bool, true, false, not}
 use mathlib.Core.List.{List, [], _∷_, _++_, flatMap, map}
 use Prim.Native.Nat.{ℕ, zero, suc, _+_, _-_, _*_, _≤_, _<_}
 use native.Mathlib.Omega.{arith}
-use lib.Dec.{eqb}
 use lib.ListN.{drop, length, length-drop, take}
 use lib.Seq.{length-take-le, take-append-add}
-use borrow.Author.Tests.{eq-eqb, not-false, not-true}
+use borrow.Author.Tests.{eq-eqb, not-true}
 use Rattle.bits.specs.Bits.{bits, digit, parity}
-use Rattle.bits.specs.Choice.{if}
 use Rattle.bits.specs.Words.{words10}
-use Rattle.bits.proofs.Choice.{and-true}
-use Rattle.bits.proofs.Words.{nine-range, words10-cons}
-use Rattle.parts.specs.Parts.{any, laid, laidUnless, part, same}
-use Rattle.parts.proofs.Comparing.{any-cons, same-refl}
+use Rattle.bits.proofs.Choice.{if-zero}
+use Rattle.bits.proofs.Words.{nine-range, tens-append, words10-cons}
+use Rattle.parts.specs.Parts.{any, endToEnd, laid, laidUnless, part, same}
+use Rattle.parts.proofs.Comparing.{any-of-map, any-weaken, same-refl}
 use Rattle.parts.proofs.Laid.{drop-to-laid, laid-split, length-laid, part-over-laid, unlessRefused-refused}
-use Rattle.scan.specs.Packet.{checksumOf, marked, sizeOf}
-use Rattle.scan.specs.Scan.{Packet, Piece, scan, wordsOf}
-use Rattle.scan.proofs.Remade.{isPacket, unsettled}
+use Rattle.scan.specs.Packet.{checksumOf}
+use Rattle.scan.specs.Scan.{Packet, scan, wordsOf}
+use Rattle.scan.proofs.Remade.{isPacket, settled-packets, words-of-packets}
 use Rattle.plan.specs.declared.Plan.{Plan}
 use Rattle.plan.specs.Plan.{planOf}
 use Rattle.plan.specs.Refusal.{orRefusal, rowRefusal}
@@ -31,31 +29,11 @@ use Rattle.packet.proofs.Packets.{length-packet, packet-did, packet-marked, pac
 use Rattle.packet.proofs.Refusals.{room-of-built}
 use Rattle.packets.specs.Find.{findOf, found, wanted}
 use Rattle.packets.proofs.Finding.{findOf-found, found-of-ancillary, found-of-laid, orElse-first}
-use Rattle.rowlaws.specs.Lawful.{endToEnd, rightPacket}
+use Rattle.rowlaws.specs.Lawful.{rightPacket}
+use Rattle.rowlaws.proofs.Calm.{right-packet}
 use Rattle.lineuses.specs.Laid.{PlaceAfter}
 use Rattle.lineuses.proofs.Checked.{row-taken}
-use Rattle.lineuses.proofs.Tens.{checksum-ten, tens-append, tens-laid}
-
--- ---- whole packets end to end, as pieces
-
-any-of-packets : (f : Piece → Bool) (l : List (List ℕ)) → any f (map Packet l) ≡ any (λ p. f (Packet p)) l
-unfolding any
-any-of-packets f [] = refl
-any-of-packets f (p ∷ l) = ap (λ (b : Bool). f (Packet p) || b) (any-of-packets f l)
-
-words-of-packets : (l : List (List ℕ)) → flatMap wordsOf (map Packet l) ≡ endToEnd l
-unfolding flatMap
-words-of-packets [] = refl
-words-of-packets (p ∷ l) = ap (λ (ws : List ℕ). p ++ ws) (words-of-packets l)
-
-settled-packets : (l : List (List ℕ)) → any (λ p. not (rightPacket p)) l ≡ false → any unsettled (map Packet l) ≡ false
-unfolding any
-settled-packets [] e = refl
-settled-packets (p ∷ l) e =
-    let each = any-cons (λ p. not (rightPacket p)) p l e in
-    let m = and-true (marked p) _ (not-false (rightPacket p) (each .0)) in
-    let s = and-true (eqb (length p) (sizeOf p)) _ (m .1) in
-    rw (m .0, s .0) (settled-packets l (each .1))
+use Rattle.lineuses.proofs.Tens.{checksum-ten, tens-laid}
 
 -- ---- words laid inside a part, after its first n words
 
@@ -102,11 +80,7 @@ module _ (did sdid : ℕ) (user : List ℕ) where
 
 user-tens : (did sdid : ℕ) (user : List ℕ) (room : ℕ) → buildRefusal did sdid user room ≡ 0 → words10 user ≡ true
 unfolding buildRefusal
-user-tens did sdid user room = go (words10 user) _
-  where
-    go : (b : Bool) (n : ℕ) → if b n 3 ≡ 0 → b ≡ true
-    go true n e = refl
-    go false n e = absurd (omega arith)
+user-tens did sdid user room e = if-zero (words10 user) _ 2 e .0
 
 -- ---- the packet found
 
@@ -128,13 +102,15 @@ module _ (code line did sdid : ℕ) (user y c : List ℕ) (packets : List (List 
         let wide : plan .places .blank + plan .places .blanks ≤ length y = omega (arith, fits .y-length, p .blank, p .sav, p .active, p .total) in
         let ps = map Packet packets in
         let z = take (plan .places .blanks - (n + length words)) (drop (n + length words) (drop (plan .places .blank) y)) in
+        let whole : any (λ p. not (isPacket p)) packets ≡ false =
+        any-weaken (λ p. not (rightPacket p)) (λ p. not (isPacket p)) (λ p e. rw (right-packet p e .0)) packets (not-true _ (placed .right)) in
         let laid-there : blankingOf plan (laid at words y) ≡ flatMap wordsOf ps ++ (words ++ z) =
         ap (λ (k : ℕ). blankingOf plan (laid k words y)) (placed .place)
         ∙ part-of-laid (plan .places .blank) (plan .places .blanks) n words y inside wide
         ∙ ap (λ (l : List ℕ). l ++ (words ++ z)) (placed .others ∙ sym (words-of-packets packets)) in
         ap (λ (l : List ℕ). found did sdid (scan l)) laid-there
-        ∙ found-of-laid did sdid ps words z (settled-packets packets (not-true _ (placed .right)))
-        (any-of-packets (wanted did sdid) packets ∙ placed .unwanted) (packet-whole did sdid user few) (packet-wanted did sdid user d s)
+        ∙ found-of-laid did sdid ps words z (settled-packets packets whole)
+        (any-of-map (wanted did sdid) Packet packets ∙ placed .unwanted) (packet-whole did sdid user few) (packet-wanted did sdid user d s)
 
     packet-found : words10 user ≡ true → findOf code line did sdid (laid at words y) c ≡ words
     packet-found t =

@@ -7,7 +7,7 @@ use native.Mathlib.Omega.{arith}
 use native.Mathlib.Decide.{decLe}
 use lib.ListN.{length, replicate}
 use Rattle.bits.specs.Words.{words10}
-use Rattle.bits.proofs.Words.{words10-cons}
+use Rattle.bits.proofs.Words.{tens-append, tens-blanks, tens-take, words10-cons}
 use Rattle.crc.specs.Crc.{crWords}
 use Rattle.crc.proofs.Words.{cr-range, crWords-done, crWords-register}
 use Rattle.raster.specs.Lines.{lineRefusal}
@@ -21,7 +21,7 @@ use Rattle.region.specs.Region.{mended, wiped}
 use Rattle.stream.specs.Words.{checkWords, coveredBy, headWords, lineWordsOf, trs}
 use Rattle.repair.specs.Repair.{correctedStream, putRight, wipedIf, withCodes, withCrc, withSums}
 use Rattle.compose.specs.Compose.{crcFor, streamOf}
-use Rattle.lineuses.proofs.Tens.{tens-append, tens-blanks, tens-inRegions, tens-laid, tens-mended, tens-take, tens-wiped}
+use Rattle.lineuses.proofs.Tens.{tens-inRegions, tens-laid, tens-mended, tens-wiped}
 
 -- ---- the words that are made
 

@@ -10,7 +10,8 @@ use borrow.Author.Tests.{le-leb}
 use Rattle.bits.specs.Bits.{wordBits}
 use Rattle.bits.specs.Words.{words10}
 use Rattle.bits.proofs.Bits.{length-wordBits}
-use Rattle.crc.specs.Crc.{crcStart, crcWords, registerOk}
+use Rattle.bits.proofs.Words.{tens-drop, tens-take}
+use Rattle.crc.proofs.Range.{crcWords-ok}
 use Rattle.cable.specs.Bits.{past, unscrambled}
 use Rattle.cable.specs.Channels.{paired}
 use Rattle.cable.specs.Words.{codeRefusal, unscrambleWords}
@@ -25,13 +26,11 @@ use Rattle.row.specs.declared.Carry.{Carry}
 use Rattle.row.specs.declared.Checked.{Checked}
 use Rattle.row.specs.Before.{carryOk}
 use Rattle.row.specs.Row.{carryAfter, checked, flagsOf}
-use Rattle.crc.proofs.Range.{crcWords-range}
 use Rattle.burst.specs.Stretch.{BurstFlagged, channelWords, crcFlagged, flagsIn, received}
 use Rattle.burst.proofs.Flagged.{burst-flagged}
 use Rattle.lineuses.specs.Struck.{checkedAfter, firstChecked, nextChecked, Struck, total, TwoRows}
 use Rattle.lineuses.proofs.Channels.{channelWords-after, tens-of-paired}
 use Rattle.lineuses.proofs.Checked.{row-checked}
-use Rattle.lineuses.proofs.Tens.{tens-drop, tens-take}
 
 -- the active words of a row that other words follow
 active-of-first : (at count : ℕ) (ws : List ℕ) → at + count ≤ length ws → part at count (part 0 (at + count) ws) ≡ take count (drop at ws)
@@ -39,9 +38,6 @@ active-of-first at count ws h =
     ap (λ (l : List ℕ). take count (drop at l)) (take-add at count ws)
     ∙ ap (take count) (drop-at (take at ws) (take count (drop at ws)) at (length-take-le at ws (omega arith)))
     ∙ take-take count count (drop at ws) (omega arith)
-
-register-ok : (ws : List ℕ) → registerOk (crcWords crcStart ws) ≡ true
-register-ok ws = le-leb (crcWords crcStart ws) 0x3ffff (omega (arith, crcWords-range crcStart ws (omega arith)))
 
 -- ---- the two checks
 
@@ -131,8 +127,8 @@ module _
       left-ok : carryOk left ≡ true
       left-ok =
           rw (
-            register-ok (activeOf (planOf code line) (part 0 n ys)),
-            register-ok (activeOf (planOf code line) (part 0 n cs)),
+            crcWords-ok (activeOf (planOf code line) (part 0 n ys)),
+            crcWords-ok (activeOf (planOf code line) (part 0 n cs)),
           )
 
       row-seen : nextChecked code line next carry ys cs

@@ -1,14 +1,14 @@
--- Words of at most 3FF: put together, taken apart, laid, and made from the pieces of a scan.
-use mathlib.Core.Path.{_≡_, refl, sym, ap, _∙_}
+-- Words of at most 3FF: laid, and made from the pieces of a scan.
+use mathlib.Core.Path.{_≡_, sym, ap, _∙_}
 use mathlib.Core.Bool.{Bool, true, false}
-use mathlib.Core.List.{List, [], _∷_, _++_, flatMap}
-use Prim.Native.Nat.{ℕ, zero, suc, _+_, _%_, _≤_}
+use mathlib.Core.List.{List, [], _∷_, flatMap}
+use Prim.Native.Nat.{ℕ, suc, _+_, _%_, _≤_}
 use native.Mathlib.Omega.{arith}
-use lib.ListN.{length, take, drop, set, replicate}
+use lib.ListN.{length, take, set}
 use lib.Seq.{take-append-seam, drop-append-seam}
 use Rattle.bits.specs.Choice.{if}
 use Rattle.bits.specs.Words.{words10}
-use Rattle.bits.proofs.Words.{words10-append, words10-cons, words10-head, words10-tail, nine-range}
+use Rattle.bits.proofs.Words.{nine-range, tens-append, tens-blanks, tens-drop, tens-set, tens-take, words10-head, words10-tail}
 use Rattle.parts.specs.Parts.{inPart, laid, part}
 use Rattle.scan.specs.Packet.{checksumOf, rightChecksum, sumOf, summed, userCount}
 use Rattle.scan.specs.Scan.{Piece, Word, Marker, Packet, scan, wordsOf}
@@ -17,35 +17,10 @@ use Rattle.plan.specs.declared.Plan.{Plan}
 use Rattle.region.specs.Ancillary.{inRegions}
 use Rattle.region.specs.Region.{mendPiece, mended, wipePiece, wiped}
 
-pub tens-append : (vs ws : List ℕ) → words10 vs ≡ true → words10 ws ≡ true → words10 (vs ++ ws) ≡ true
-tens-append vs ws v w = words10-append vs ws v ∙ w
-
-pub tens-take : (n : ℕ) (ws : List ℕ) → words10 ws ≡ true → words10 (take n ws) ≡ true
-unfolding words10
-tens-take zero ws t = refl
-tens-take (suc n) [] t = refl
-tens-take (suc n) (w ∷ ws) t = words10-cons w (take n ws) (words10-head w ws t) (tens-take n ws (words10-tail w ws t))
-
-pub tens-drop : (n : ℕ) (ws : List ℕ) → words10 ws ≡ true → words10 (drop n ws) ≡ true
-unfolding words10
-tens-drop zero ws t = t
-tens-drop (suc n) [] t = refl
-tens-drop (suc n) (w ∷ ws) t = tens-drop n ws (words10-tail w ws t)
-
-tens-set : (ws : List ℕ) (i w : ℕ) → w ≤ 0x3ff → words10 ws ≡ true → words10 (set ws i w) ≡ true
-tens-set [] i w h t = t
-tens-set (v ∷ ws) zero w h t = words10-cons w ws h (words10-tail v ws t)
-tens-set (v ∷ ws) (suc i) w h t = words10-cons v (set ws i w) (words10-head v ws t) (tens-set ws i w h (words10-tail v ws t))
-
 pub tens-laid : (at : ℕ) (ws buffer : List ℕ) → words10 ws ≡ true → words10 buffer ≡ true → words10 (laid at ws buffer) ≡ true
 unfolding laid
 tens-laid at [] buffer t b = b
 tens-laid at (w ∷ ws) buffer t b = tens-laid (suc at) ws (set buffer at w) (words10-tail w ws t) (tens-set buffer at w (words10-head w ws t) b)
-
-pub tens-blanks : (n blank : ℕ) → blank ≤ 0x3ff → words10 (replicate n blank) ≡ true
-unfolding words10
-tens-blanks zero blank h = refl
-tens-blanks (suc n) blank h = words10-cons blank (replicate n blank) h (tens-blanks n blank h)
 
 -- ---- pieces, each made into words of at most 3FF
 

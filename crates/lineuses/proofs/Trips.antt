@@ -14,18 +14,13 @@ pub coded-number : (n next : ℕ) → coded n next .refusal ≡ n
 coded-number zero next = refl
 coded-number (suc n) next = refl
 
-filled-kept : (n next : ℕ) (result out : List ℕ) {r : Coded} {after : List ℕ}
-    → r ≡ coded n next → after ≡ filled n result out → (r .refusal ≡ 0 → ⊥) → after ≡ out
-filled-kept n next result out e f bad = f ∙ sym (filled-refused n result out (λ z. bad (ap (λ r. r .refusal) e ∙ coded-number n next ∙ z)))
-
-module _ (h : ℕ) (ws out : List ℕ) {r : Coded} {after : List ℕ} where
-  pub scramble-kept : r ≡ coded (codeRefusal h ws (length out)) (scrambleNext h ws)
-      → after ≡ filled (codeRefusal h ws (length out)) (scrambleWords h ws) out → (r .refusal ≡ 0 → ⊥) → after ≡ out
-  scramble-kept = filled-kept (codeRefusal h ws (length out)) (scrambleNext h ws) (scrambleWords h ws) out
-
-  pub unscramble-kept : r ≡ coded (codeRefusal h ws (length out)) (unscrambleNext h ws)
-      → after ≡ filled (codeRefusal h ws (length out)) (unscrambleWords h ws) out → (r .refusal ≡ 0 → ⊥) → after ≡ out
-  unscramble-kept = filled-kept (codeRefusal h ws (length out)) (unscrambleNext h ws) (unscrambleWords h ws) out
+-- words that are refused leave the output as it was, whether they are scrambled or unscrambled
+pub filled-kept : (next : ℕ → List ℕ → ℕ) (made : ℕ → List ℕ → List ℕ) (h : ℕ) (ws out : List ℕ) {r : Coded} {after : List ℕ}
+    → r ≡ coded (codeRefusal h ws (length out)) (next h ws) → after ≡ filled (codeRefusal h ws (length out)) (made h ws) out
+    → (r .refusal ≡ 0 → ⊥) → after ≡ out
+filled-kept next made h ws out e f bad =
+    let n = codeRefusal h ws (length out) in
+    f ∙ sym (filled-refused n (made h ws) out (λ z. bad (ap (λ r. r .refusal) e ∙ coded-number n (next h ws) ∙ z)))
 
 pub unscramble-number : (h : ℕ) (ws out : List ℕ) {r : Coded} → r ≡ coded (codeRefusal h ws (length out)) (unscrambleNext h ws)
     → r .refusal ≡ codeRefusal h ws (length out)

@@ -3,22 +3,23 @@ use mathlib.Core.Path.{_≡_, refl, sym, ap, ap₂, _∙_}
 use mathlib.Core.Bool.{Bool, true, false}
 use mathlib.Core.List.{List, [], _∷_, _++_, flatMap}
 use Prim.Native.Nat.{ℕ}
-use borrow.Author.Tests.{leb-true}
 use Rattle.bits.specs.Choice.{if}
 use Rattle.bits.specs.Bits.{wordBits}
 use Rattle.bits.specs.Words.{words10}
 use Rattle.bits.proofs.Bits.{wordBits-append}
 use Rattle.bits.proofs.Words.{words10-nil, words10-cons, words10-head, words10-tail, words10-append}
+use Rattle.raster.specs.Table.{totalOf}
 use Rattle.cable.specs.Words.{unscrambleNext, unscrambleWords}
 use Rattle.cable.proofs.Words.{unscramble-nil, unscramble-next-none, unscramble-of-append, unscramble-next-of-append}
+use Rattle.parts.specs.Parts.{endToEnd}
 use Rattle.laying.specs.Laying.{laidBy}
 use Rattle.session.specs.declared.Session.{Session}
-use Rattle.stepper.specs.Step.{Run, run, totalOf, steps}
+use Rattle.stepper.specs.Step.{Run, run, steps}
 use Rattle.session.specs.Session.{session, feedRefusal, fedRun}
+use Rattle.session.proofs.Refusing.{ready-history}
 use Rattle.stepper.proofs.Stepping.{steps-of-append}
 use Rattle.module.specs.Runs.{Bench, bench, fedOnce, fedAll, takenIf, taken}
 use Rattle.module.proofs.Refusals.{feed-ready}
-use Rattle.module.proofs.Ranges.{ranges}
 use Rattle.module.proofs.Feeds.{ReadyOn, benchAfter, taken-feed, refused-feed, ready-after}
 
 words10-first : (ws vs : List ℕ) → words10 (ws ++ vs) ≡ true → words10 ws ≡ true
@@ -41,7 +42,7 @@ module _ (x : Bench) (r : ReadyOn x) where
   none-fed : benchAfter [] x ≡ x
   unfolding fedRun bench-of wordBits steps
   none-fed =
-      ap₂ (bench-of (x .session)) (unscramble-next-none (x .session .history) (leb-true (x .session .history) 0x3ff (ranges (x .session) (r .in-range) .history)))
+      ap₂ (bench-of (x .session)) (unscramble-next-none (x .session .history) (ready-history r))
       (ap (λ (vs : List ℕ). steps laidBy (x .session .raster) (totalOf (x .session .raster)) (wordBits vs) (run (x .session .state) (x .y) (x .c)))
       (unscramble-nil (x .session .history)))
 
@@ -87,17 +88,17 @@ taken-are-lawful (ws ∷ feeds) x r = ap₂ (λ (vs rest : List ℕ). vs ++ rest
     first true e = rw (feed-ready (x .session) ws (x .y) (x .c) r, e)
     first false e = rw (feed-ready (x .session) ws (x .y) (x .c) r, e)
 
-all-lawful : (feeds : List (List ℕ)) → words10 (flatMap (λ p. p) feeds) ≡ true → flatMap lawful feeds ≡ flatMap (λ p. p) feeds
+all-lawful : (feeds : List (List ℕ)) → words10 (endToEnd feeds) ≡ true → flatMap lawful feeds ≡ endToEnd feeds
 unfolding flatMap
 all-lawful [] w = refl
 all-lawful (ws ∷ feeds) w =
-    let rest = flatMap (λ p. p) feeds in
+    let rest = endToEnd feeds in
     let one = words10-first ws rest w in
     rw (one, all-lawful feeds (sym (words10-append ws rest one) ∙ w))
 
-pub fedAll-of-pieces : (feeds : List (List ℕ)) (x : Bench) → ReadyOn x → words10 (flatMap (λ p. p) feeds) ≡ true
-    → fedAll feeds x ≡ fedOnce (flatMap (λ p. p) feeds) x
+pub fedAll-of-pieces : (feeds : List (List ℕ)) (x : Bench) → ReadyOn x → words10 (endToEnd feeds) ≡ true
+    → fedAll feeds x ≡ fedOnce (endToEnd feeds) x
 fedAll-of-pieces feeds x r w =
     fedAll-of-lawful feeds x r
     ∙ ap (λ (ws : List ℕ). benchAfter ws x) (all-lawful feeds w)
-    ∙ sym (taken-feed (flatMap (λ p. p) feeds) x r w)
+    ∙ sym (taken-feed (endToEnd feeds) x r w)

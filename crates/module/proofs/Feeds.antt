@@ -7,13 +7,15 @@ use native.Mathlib.Omega.{arith}
 use lib.ListN.{length}
 use Rattle.bits.specs.Bits.{wordBits}
 use Rattle.bits.specs.Words.{words10}
+use Rattle.raster.specs.Table.{totalOf}
 use Rattle.cable.specs.Words.{unscrambleWords}
 use Rattle.session.specs.declared.Session.{Session}
-use Rattle.stepper.specs.Step.{Run, run, totalOf}
+use Rattle.stepper.specs.Step.{Run, run}
 use Rattle.parts.specs.Parts.{unlessRefused}
 use Rattle.session.specs.Session.{inRange, feedRefusal, fedRun, fedSession, fed, fedY, fedC}
+use Rattle.session.proofs.Refusing.{Ready}
 use Rattle.module.specs.Runs.{Bench, bench, fedOnce, fedAll}
-use Rattle.module.proofs.Refusals.{Ready, feed-ready}
+use Rattle.module.proofs.Refusals.{feed-ready}
 use Rattle.module.proofs.Ranges.{fed-in-range, fed-keeps}
 use Rattle.module.proofs.Lengths.{length-steps}
 

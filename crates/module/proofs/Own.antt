@@ -5,12 +5,12 @@ use mathlib.Core.List.{List, flatMap}
 use Prim.Native.Nat.{ℕ, zero, suc, _≤_, min}
 use native.Mathlib.Omega.{arith}
 use lib.ListN.{length}
-use Rattle.raster.specs.Table.{meant, rasterOk, lookedUp}
+use Rattle.raster.specs.Table.{meant, rasterOk, totalOf, rowsOf}
 use Rattle.raster.proofs.Table.{meant-ok, lookedUp-range, lookedUp-zero}
 use Rattle.stepper.specs.declared.State.{State}
 use Rattle.session.specs.declared.Ended.{Ended}
 use Rattle.tally.specs.Tally.{verdictOf}
-use Rattle.stepper.specs.Step.{run, totalOf}
+use Rattle.stepper.specs.Step.{run}
 use Rattle.session.specs.Session.{startState, closed, inRange, fedRun, endedBy, ended}
 use Rattle.module.specs.Module.{begunRun, afterBits, bitsOf, moduleOf}
 use Rattle.module.specs.Runs.{Bench, bench, fedAll, taken, started, played, answered, left}
@@ -43,7 +43,7 @@ told code s =
       refusal = 0;
       raster = code;
       counts = s .counts;
-      verdict = verdictOf (s .sight .window .seen) (lookedUp code .raster .rows) (s .counts);
+      verdict = verdictOf (s .sight .window .seen) (rowsOf code) (s .counts);
       session = closed;
     }
 

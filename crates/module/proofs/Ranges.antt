@@ -4,51 +4,28 @@ use mathlib.Core.Bool.{Bool, true}
 use mathlib.Core.List.{List}
 use Prim.Native.Nat.{ℕ, zero, suc}
 use native.Mathlib.Omega.{arith}
-use lib.Dec.{leb}
 use borrow.Author.Tests.{le-leb}
 use Rattle.bits.specs.Bits.{wordBits}
-use Rattle.bits.proofs.Choice.{and-true}
-use Rattle.raster.specs.Table.{meant, rasterOk, lookedUp}
+use Rattle.raster.specs.Table.{meant, rasterOk, totalOf, rowsOf}
 use Rattle.raster.proofs.Table.{meant-range, lookedUp-range}
 use Rattle.cable.specs.Words.{unscrambleNext, unscrambleWords}
 use Rattle.cable.proofs.Words.{unscramble-next-range}
 use Rattle.parts.specs.Parts.{part}
 use Rattle.session.specs.declared.Session.{Session}
-use Rattle.stepper.specs.Step.{Run, run, Laying, totalOf, recognised, stepped, steps}
-use Rattle.session.specs.Session.{closed, rasterIn, sightIn, trackIn, inRange, beginRefusal, begunBy, begun, feedRefusal, fedRun, fedSession, fedBy, fed, endRefusal, endedBy, ended}
+use Rattle.stepper.specs.Step.{Run, run, Laying, recognised, stepped, steps}
+use Rattle.session.specs.Session.{closed, sightIn, trackIn, inRange, beginRefusal, begunBy, begun, feedRefusal, fedRun, fedSession, fedBy, fed, endRefusal, endedBy, ended}
+use Rattle.session.proofs.Ranges.{in-range, ranges}
+use Rattle.session.proofs.Refusing.{ready-raster, feed-taken}
 use Rattle.laying.specs.Laying.{laidBy}
-use Rattle.module.proofs.Refusals.{begin-taken, feed-taken}
+use Rattle.module.proofs.Refusals.{begin-taken}
 use Rattle.module.proofs.Folds.{steps-keep}
 use Rattle.module.proofs.Sights.{sight-kept}
 use Rattle.module.proofs.Tracks.{track-kept}
 
--- ---- the parts of the range
-
-pub record Ranges (s : Session) : Type 0 where
-  pub raster : rasterIn (s .running) (s .raster) ≡ true
-  pub history : leb (s .history) 0x3ff ≡ true
-  pub sight : sightIn (totalOf (s .raster)) (s .state .sight) ≡ true
-  pub track : trackIn (lookedUp (s .raster) .raster .rows) (s .state .track) ≡ true
-
-in-range : (s : Session) → Ranges s → inRange s ≡ true
-unfolding inRange
-in-range s r = rw (r .raster, r .history, r .sight, r .track)
-
-pub ranges : (s : Session) → inRange s ≡ true → Ranges s
-unfolding inRange
-ranges s h =
-    let a = and-true (rasterIn (s .running) (s .raster)) _ h in
-    let b = and-true (leb (s .history) 0x3ff) _ (a .1) in
-    let c = and-true (sightIn (totalOf (s .raster)) (s .state .sight)) _ (b .1) in
-    record { raster = a .0; history = b .0; sight = c .0; track = c .1 }
-
-running-raster : (s : Session) → s .running ≡ true → inRange s ≡ true → rasterOk (s .raster) ≡ true
-running-raster s r h = and-true (leb 1 (s .raster)) (rasterOk (s .raster)) (rw r at (ranges s h .raster)) .1
-
 -- ---- bit after bit
 
 Kept : ℕ → Run → Type 0
-Kept code x = (sightIn (totalOf code) (x .state .sight) ≡ true) × (trackIn (lookedUp code .raster .rows) (x .state .track) ≡ true)
+Kept code x = (sightIn (totalOf code) (x .state .sight) ≡ true) × (trackIn (rowsOf code) (x .state .track) ≡ true)
 
 stepped-in-range : (lay : Laying) (code : ℕ) → rasterOk code ≡ true → (b : Bool) (x : Run) → Kept code x → Kept code (stepped lay code (totalOf code) b x)
 unfolding Kept stepped
@@ -81,7 +58,7 @@ fed-in-range s ws y c h = go (feedRefusal s ws y c) refl
     go : (n : ℕ) → feedRefusal s ws y c ≡ n → inRange (fedBy n s ws (fedRun s ws y c) .session) ≡ true
     go zero e =
         let r = ranges s h in
-        let k = steps-in-range laidBy (s .raster) (running-raster s (feed-taken s ws y c e .0 .running) h)
+        let k = steps-in-range laidBy (s .raster) (ready-raster (feed-taken s ws y c e .0))
         (wordBits (unscrambleWords (s .history) ws)) (run (s .state) y c) (r .sight, r .track) in
         in-range (fedSession s ws (fedRun s ws y c))
         record {

@@ -8,12 +8,12 @@ use native.Mathlib.Nat.{zero-add}
 use lib.Dec.{ltb}
 use borrow.Author.Tests.{ltb-true, ltb-false}
 use Rattle.bits.specs.Choice.{if}
-use Rattle.raster.specs.Table.{meant}
+use Rattle.raster.specs.Table.{meant, totalOf}
 use Rattle.judging.specs.declared.Happening.{Happening}
 use Rattle.judging.specs.Happening.{happenings}
 use Rattle.tally.specs.declared.Counts.{Counts}
 use Rattle.tally.specs.Tally.{isRow, isFault, ceiling, raised, noCounts, counted, tallied}
-use Rattle.stepper.specs.Step.{Run, Laying, totalOf, brought, stepped, steps, traced}
+use Rattle.stepper.specs.Step.{Run, Laying, brought, stepped, steps, traced}
 use Rattle.module.specs.Module.{listed, begunRun, happeningsOf, bitsOf, moduleOf}
 
 -- ---- the happenings' counts

@@ -9,7 +9,7 @@ use lib.Dec.{ltb, eqb}
 use borrow.Author.Tests.{ltb-true, ltb-false, lt-ltb, le-ltb, eqb-true, eqb-false, eq-eqb, ne-eqb}
 use Rattle.bits.specs.Choice.{if}
 use Rattle.bits.specs.Bits.{wordBits}
-use Rattle.raster.specs.Table.{meant, lookedUp}
+use Rattle.raster.specs.Table.{meant, totalOf, rowsOf}
 use Rattle.cable.specs.Words.{startHistory, unscrambleWords}
 use Rattle.cable.proofs.Words.{unscramble-nil}
 use Rattle.align.specs.Sync.{firstSync}
@@ -19,7 +19,7 @@ use Rattle.recogniser.proofs.Windows.{Tied, tied-start, tied-after}
 use Rattle.tally.specs.declared.Verdict.{Verdict}
 use Rattle.tally.specs.declared.Verdict.the-variants.{Refused, NoSignal, Fail, Short, Pass}
 use Rattle.tally.specs.Tally.{noCounts}
-use Rattle.stepper.specs.Step.{Run, Laying, totalOf, stepped, steps}
+use Rattle.stepper.specs.Step.{Run, Laying, stepped, steps}
 use Rattle.module.specs.Module.{listed, begunRun, afterBits, bitsOf, moduleOf}
 
 -- ---- the window after bits
@@ -46,7 +46,7 @@ module _ (code : ℕ) (ws : List ℕ) where
   faultCount = moduleOf code ws .counts .faults
 
   abbrev pub rowsMeant : ℕ
-  rowsMeant = lookedUp (meant code) .raster .rows
+  rowsMeant = rowsOf (meant code)
 
   -- "Verdict, first that holds: NO SIGNAL, no sync; FAIL, faults not 0; SHORT, rows below N; PASS."
   abbrev pub Says : Verdict → Type 0

@@ -6,7 +6,7 @@ use Prim.Native.Nat.{ℕ}
 use lib.Dec.{ltb}
 use Rattle.bits.specs.Choice.{if}
 use Rattle.bits.specs.Bits.{wordBits}
-use Rattle.raster.specs.Table.{meant, lookedUp}
+use Rattle.raster.specs.Table.{meant, totalOf, rowsOf}
 use Rattle.cable.specs.Words.{startHistory, unscrambleWords}
 use Rattle.stream.specs.Words.{trs}
 use Rattle.recogniser.specs.declared.Event.{Event}
@@ -15,7 +15,7 @@ use Rattle.judging.specs.declared.Happening.{Happening}
 use Rattle.tally.specs.declared.Counts.{Counts}
 use Rattle.tally.specs.declared.Verdict.{Verdict}
 use Rattle.tally.specs.Tally.{verdictOf}
-use Rattle.stepper.specs.Step.{Run, run, totalOf, steps, traced}
+use Rattle.stepper.specs.Step.{Run, run, steps, traced}
 use Rattle.session.specs.Session.{startState}
 
 -- an open row's words in one channel, from its EAV on, up to T of them; none where no row is open
@@ -54,7 +54,7 @@ answerIn code x =
     record {
       raster = code;
       counts = x .state .counts;
-      verdict = verdictOf (x .state .sight .window .seen) (lookedUp code .raster .rows) (x .state .counts);
+      verdict = verdictOf (x .state .sight .window .seen) (rowsOf code) (x .state .counts);
     }
 
 -- the module's own answer

@@ -1,14 +1,14 @@
 -- Laws of the refusals of building.
 use mathlib.Core.Path.{_≡_, refl, _∙_}
-use mathlib.Core.Bool.{Bool, true, false, not, _&&_}
+use mathlib.Core.Bool.{true, false, not, _&&_}
 use mathlib.Core.List.{List}
 use Prim.Native.Nat.{ℕ, zero, suc, _+_, _≤_, _<_}
-use native.Mathlib.Omega.{arith}
 use lib.Dec.{leb, eqb}
 use lib.ListN.{length}
 use borrow.Author.Tests.{le-leb, lt-leb, ne-eqb, leb-true}
 use Rattle.bits.specs.Choice.{if}
 use Rattle.bits.specs.Words.{words10, reservedCode}
+use Rattle.bits.proofs.Choice.{and-true, if-zero}
 use Rattle.parts.specs.Parts.{any, laidUnless}
 use Rattle.scan.proofs.Packets.{checksum-not-reserved}
 use Rattle.packet.specs.Build.{bodyOf, madeFit, buildRefusal, builtFor}
@@ -44,19 +44,12 @@ module _ (did sdid : ℕ) (user : List ℕ) (room : ℕ) where
 
   pub room-of-built : buildRefusal did sdid user room ≡ 0 → (length user ≤ 255) × (length user + 7 ≤ room)
   unfolding buildRefusal
-  room-of-built =
-      go (words10 user) (not (eqb did 0)) (leb (length user) 255) (not (any reservedCode user)) (madeFit did sdid user)
-      (leb (length user + 7) room) (leb-true (length user) 255) (leb-true (length user + 7) room)
-    where
-      go : (w d l f h r : Bool) → (l ≡ true → length user ≤ 255) → (r ≡ true → length user + 7 ≤ room)
-          → if {A = ℕ} w (if (d && (l && f)) (if h (if r 0 1) 8) 6) 3 ≡ 0 → (length user ≤ 255) × (length user + 7 ≤ room)
-      go true true true true true true few wide e = (few refl, wide refl)
-      go true true true true true false few wide e = absurd (omega arith)
-      go true true true true false r few wide e = absurd (omega arith)
-      go true true true false h r few wide e = absurd (omega arith)
-      go true true false f h r few wide e = absurd (omega arith)
-      go true false l f h r few wide e = absurd (omega arith)
-      go false d l f h r few wide e = absurd (omega arith)
+  room-of-built e =
+      let w = if-zero (words10 user) _ 2 e in
+      let d = if-zero (not (eqb did 0) && (leb (length user) 255 && not (any reservedCode user))) _ 5 (w .1) in
+      let m = if-zero (madeFit did sdid user) _ 7 (d .1) in
+      let few = and-true (leb (length user) 255) _ (and-true (not (eqb did 0)) _ (d .0) .1) in
+      (leb-true (length user) 255 (few .0), leb-true (length user + 7) room (if-zero (leb (length user + 7) room) 0 0 (m .1) .0))
 
 -- ---- builtFor, and the buffer that a refusal leaves
 

@@ -6,13 +6,12 @@ use Prim.Native.Nat.{ℕ, zero, suc, _+_, _≤_, _<_}
 use native.Mathlib.Omega.{arith}
 use lib.ListN.{length, take, drop, length-append}
 use borrow.Author.Tests.{le-leb, lt-leb}
-use Rattle.parts.specs.Parts.{any, laid, laidUnless}
-use Rattle.parts.proofs.Comparing.{any-cons}
+use Rattle.parts.specs.Parts.{any, laid, laidUnless, endToEnd}
 use Rattle.parts.proofs.Inside.{length-part}
 use Rattle.parts.proofs.Laid.{laid-of-append, unlessRefused-refused}
-use Rattle.scan.specs.Scan.{Packet, wordsOf, scan, packetsOf}
+use Rattle.scan.specs.Scan.{Packet, scan, packetsOf}
 use Rattle.scan.proofs.Pieces.{AtWhole}
-use Rattle.scan.proofs.Remade.{isPacket, unsettled, scan-of-settled}
+use Rattle.scan.proofs.Remade.{isPacket, scan-of-settled, words-of-packets, settled-packets}
 use Rattle.plan.specs.declared.Plan.{Plan}
 use Rattle.plan.specs.Refusal.{rowRefusal}
 use Rattle.plan.proofs.Rows.{orRefusal-first}
@@ -43,25 +42,17 @@ abbrev pub notPacket : List ℕ → Bool
 notPacket p = not (isPacket p)
 
 pub packets-of-laid : (packets : List (List ℕ)) (z : List ℕ) → any notPacket packets ≡ false
-    → packetsOf (scan (flatMap (λ p. p) packets ++ z)) ≡ flatMap (λ p. p) packets ++ packetsOf (scan z)
-unfolding packetsOf flatMap any
+    → packetsOf (scan (endToEnd packets ++ z)) ≡ endToEnd packets ++ packetsOf (scan z)
+unfolding packetsOf flatMap
 packets-of-laid packets z e =
-    ap (λ (l : List ℕ). packetsOf (scan (l ++ z))) (sym (words packets))
-    ∙ ap packetsOf (scan-of-settled (map Packet packets) z (settled packets e))
+    ap (λ (l : List ℕ). packetsOf (scan (l ++ z))) (sym (words-of-packets packets))
+    ∙ ap packetsOf (scan-of-settled (map Packet packets) z (settled-packets packets e))
     ∙ packets-of-append (map Packet packets) (scan z)
     ∙ ap (λ (l : List ℕ). l ++ packetsOf (scan z)) (whole packets)
   where
-    words : (l : List (List ℕ)) → flatMap wordsOf (map Packet l) ≡ flatMap (λ p. p) l
-    words [] = refl
-    words (p ∷ l) = ap (λ (ws : List ℕ). p ++ ws) (words l)
-
-    whole : (l : List (List ℕ)) → packetsOf (map Packet l) ≡ flatMap (λ p. p) l
+    whole : (l : List (List ℕ)) → packetsOf (map Packet l) ≡ endToEnd l
     whole [] = refl
     whole (p ∷ l) = ap (λ (ws : List ℕ). p ++ ws) (whole l)
-
-    settled : (l : List (List ℕ)) → any notPacket l ≡ false → any unsettled (map Packet l) ≡ false
-    settled [] e = refl
-    settled (p ∷ l) e = let each = any-cons notPacket p l e in rw (each .0) (settled l (each .1))
 
 -- ---- the packets of a channel, region after region
 

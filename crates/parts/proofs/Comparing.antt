@@ -1,16 +1,16 @@
 -- Laws of same and any: a turn of a loop, its stop and its end.
-use mathlib.Core.Path.{_≡_, refl, sym, ap}
+use mathlib.Core.Path.{_≡_, refl, ap}
 use mathlib.Core.Bool.{Bool, true, false, _||_}
-use mathlib.Core.List.{List, [], _∷_, _++_}
+use mathlib.Core.List.{List, [], _∷_, _++_, map}
 use Prim.Native.Nat.{ℕ, zero, suc, _+_, _≤_, _<_}
 use native.Mathlib.Omega.{arith}
 use native.Mathlib.Numerals.{add-one}
 use lib.Dec.{eqb}
-use lib.ListN.{length, getD, drop, drop-of-length-le}
+use lib.ListN.{length, getD, drop, replicate, drop-of-length-le}
 use lib.Seq.{drop-cons, drop-length}
 use borrow.Author.Tests.{eq-eqb, ne-eqb, eqb-true}
 use Rattle.bits.specs.Choice.{if}
-use Rattle.bits.proofs.Choice.{false-not-true, if-true}
+use Rattle.bits.proofs.Choice.{false-not-true, if-true, or-none}
 use Rattle.bits.proofs.Lists.{cons-equal}
 use Rattle.parts.specs.Parts.{same, any}
 
@@ -83,13 +83,21 @@ any-of-append p (x ∷ xs) ys = go (p x) (any-of-append p xs ys)
 
 pub any-cons : {A : Type 0} (p : A → Bool) (x : A) (xs : List A) → any p (x ∷ xs) ≡ false → (p x ≡ false) × (any p xs ≡ false)
 unfolding any
-any-cons p x xs = go (p x)
-  where
-    go : (b : Bool) → (b || any p xs) ≡ false → (b ≡ false) × (any p xs ≡ false)
-    go true e = absurd (false-not-true (sym e))
-    go false e = (refl, e)
+any-cons p x xs e = or-none (p x) (any p xs) e
 
-pub any-false : {A : Type 0} (p : A → Bool) (d : A) (xs : List A) (i : ℕ) → any p xs ≡ false → i < length xs → p (getD xs i d) ≡ false
-any-false p d [] i e h = absurd (omega arith)
-any-false p d (x ∷ xs) zero e h = any-cons p x xs e .0
-any-false p d (x ∷ xs) (suc i) e h = any-false p d xs i (any-cons p x xs e .1) (omega arith)
+pub any-weaken : {A : Type 0} (p q : A → Bool) → ((x : A) → p x ≡ false → q x ≡ false) → (xs : List A) → any p xs ≡ false → any q xs ≡ false
+unfolding any
+any-weaken p q w [] e = refl
+any-weaken p q w (x ∷ xs) e =
+    let b = any-cons p x xs e in
+    rw (w x (b .0)) (any-weaken p q w xs (b .1))
+
+pub any-of-map : {A B : Type 0} (p : B → Bool) (f : A → B) (xs : List A) → any p (map f xs) ≡ any (λ x. p (f x)) xs
+unfolding any
+any-of-map p f [] = refl
+any-of-map p f (x ∷ xs) = ap (λ (b : Bool). p (f x) || b) (any-of-map p f xs)
+
+pub any-of-replicate : {A : Type 0} (p : A → Bool) (n : ℕ) (x : A) → p x ≡ false → any p (replicate n x) ≡ false
+unfolding any
+any-of-replicate p zero x e = refl
+any-of-replicate p (suc n) x e = rw e (any-of-replicate p n x e)

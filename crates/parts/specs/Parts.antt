@@ -1,6 +1,6 @@
 -- Parts of a list of words: read, compared, overwritten.
 use mathlib.Core.Bool.{Bool, true, false, _||_}
-use mathlib.Core.List.{List, [], _∷_, _++_}
+use mathlib.Core.List.{List, [], _∷_, _++_, flatMap}
 use Prim.Native.Nat.{ℕ, zero, suc}
 use lib.Dec.{eqb}
 use lib.ListN.{take, drop, set}
@@ -30,6 +30,10 @@ laid at (w ∷ ws) buffer = laid (suc at) ws (set buffer at w)
 unfoldable pub any : {A : Type 0} → (A → Bool) → List A → Bool
 any p [] = false
 any p (x ∷ xs) = p x || any p xs
+
+-- lists one after the other: "whole packets end to end"
+abbrev pub endToEnd : {A : Type 0} → List (List A) → List A
+endToEnd ls = flatMap (λ l. l) ls
 
 -- "A refusal .. changes no buffer": the words after a call that may be refused
 abbrev pub unlessRefused : ℕ → List ℕ → List ℕ → List ℕ

@@ -1,7 +1,7 @@
 -- Laws of the plan of a line: when there is one, where its parts lie, and that none of its words is a reserved code.
 use mathlib.Core.Path.{_≡_, refl, sym, ap, _∙_}
 use mathlib.Core.Bool.{false}
-use Prim.Native.Nat.{ℕ, zero, suc, _+_, _≤_}
+use Prim.Native.Nat.{ℕ, zero, suc}
 use native.Mathlib.Omega.{arith}
 use Rattle.bits.specs.Words.{reservedCode}
 use Rattle.raster.specs.declared.Raster.{Raster}
@@ -12,9 +12,9 @@ use Rattle.raster.proofs.Table.{lookedUp-found, InRange, lookedUp-range}
 use Rattle.raster.proofs.Lines.{lineRefusal-ok, lineFacts-found, lineFacts-refusal}
 use Rattle.timing.proofs.Codes.{xyz-not-reserved}
 use Rattle.timing.proofs.Line.{line-not-reserved}
-use Rattle.plan.specs.declared.Places.{Places}
 use Rattle.plan.specs.declared.Codes.{Codes}
 use Rattle.plan.specs.declared.Plan.{Plan}
+use Rattle.plan.specs.Fits.{Fits}
 use Rattle.plan.specs.Plan.{placesOf, planIn, noPlan, planFor, planOf}
 
 -- ---- planOf
@@ -61,20 +61,6 @@ facts-found code line facts e z =
     record { ok = ok; v = rw looked (ap (λ r. r .v) same); f = rw looked (ap (λ r. r .f) same) }
 
 -- ---- placesOf
-
--- what every caller needs to know of the places: they follow one another, and are small
-pub record Fits (p : Places) : Type 0 where
-  pub lines : p .lines ≡ 2
-  pub crc : p .crc ≡ 6
-  pub checks : p .checks ≡ 2
-  pub blank : p .blank ≡ 8
-  pub sav : 8 + p .blanks ≡ p .sav
-  pub active : p .sav + 4 ≡ p .active
-  pub total : p .active + p .count ≡ p .total
-  pub total-high : p .total ≤ 4125
-  pub blanks-high : p .blanks ≤ 2833
-  pub count-low : 1280 ≤ p .count
-  pub count-high : p .count ≤ 1920
 
 placesOf-fits : (r : Raster) → InRange r → Fits (placesOf (r .layout))
 placesOf-fits r i =

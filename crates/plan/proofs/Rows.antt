@@ -1,6 +1,6 @@
 -- Laws of the refusal of a row: its order, and what a row that is not refused is.
 use mathlib.Core.Path.{_≡_, refl, sym, _∙_}
-use mathlib.Core.Bool.{Bool, true, false, _&&_}
+use mathlib.Core.Bool.{true, _&&_}
 use mathlib.Core.List.{List}
 use Prim.Native.Nat.{ℕ, zero, suc}
 use native.Mathlib.Omega.{arith}
@@ -8,7 +8,7 @@ use lib.ListN.{length}
 use borrow.Author.Tests.{eqb-true}
 use Rattle.bits.specs.Choice.{if}
 use Rattle.bits.specs.Words.{words10}
-use Rattle.bits.proofs.Choice.{and-true}
+use Rattle.bits.proofs.Choice.{and-true, if-zero}
 use Rattle.raster.specs.Lines.{lineRefusal}
 use Rattle.plan.specs.Plan.{planOf}
 use Rattle.plan.specs.Refusal.{rowOk, orRefusal, rowRefusal}
@@ -34,11 +34,6 @@ pub record RowFits (code line : ℕ) (y c : List ℕ) : Type 0 where
   pub y-words : words10 y ≡ true
   pub c-words : words10 c ≡ true
 
-both-refusal : (a b : Bool) → if {A = ℕ} a (if b 0 3) 2 ≡ 0 → (a ≡ true) × (b ≡ true)
-both-refusal true true e = (refl, refl)
-both-refusal true false e = absurd (omega arith)
-both-refusal false b e = absurd (omega arith)
-
 module _ (code line : ℕ) (y c : List ℕ) where
   pub rowRefusal-line : (lineRefusal code line ≡ 0 → ⊥) → rowRefusal code line y c ≡ lineRefusal code line
   unfolding rowRefusal
@@ -53,9 +48,9 @@ module _ (code line : ℕ) (y c : List ℕ) where
   unfolding rowRefusal
   rowRefusal-ok e =
       let z = orRefusal-none (lineRefusal code line) _ e in
-      let b = both-refusal (rowOk code y && rowOk code c) (words10 y && words10 c) (z .1) in
+      let b = if-zero (rowOk code y && rowOk code c) _ 1 (z .1) in
       let l = and-true (rowOk code y) (rowOk code c) (b .0) in
-      let w = and-true (words10 y) (words10 c) (b .1) in
+      let w = and-true (words10 y) (words10 c) (if-zero (words10 y && words10 c) 0 2 (b .1) .0) in
       let t = sym (planOf-total code line (z .0)) in
       record {
         ok = z .0;

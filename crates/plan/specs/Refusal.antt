@@ -6,12 +6,12 @@ use lib.Dec.{eqb}
 use lib.ListN.{length}
 use Rattle.bits.specs.Choice.{if}
 use Rattle.bits.specs.Words.{words10}
-use Rattle.raster.specs.Table.{lookedUp}
+use Rattle.raster.specs.Table.{totalOf}
 use Rattle.raster.specs.Lines.{lineRefusal}
 
 -- "2: row slice not of T words"
 abbrev pub rowOk : ℕ → List ℕ → Bool
-rowOk code ws = eqb (length ws) (lookedUp code .raster .layout .total)
+rowOk code ws = eqb (length ws) (totalOf code)
 
 -- "Order where several apply: .., 4, 5, 2, 3, .."; the first of two refusals, 0 being none
 abbrev pub orRefusal : ℕ → ℕ → ℕ

@@ -1,4 +1,4 @@
-pub mod All
+pub mod Each
 pub mod Table
 pub mod Places
 pub mod Lines

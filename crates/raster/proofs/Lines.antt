@@ -11,8 +11,8 @@ use Rattle.raster.specs.declared.Kind.{Kind}
 use Rattle.raster.specs.declared.Kind.the-variants.{Progressive}
 use Rattle.raster.specs.Table.{table, rasterOk, entryOf}
 use Rattle.raster.specs.Lines.{between, vOf, fOf, lineOk, lineRefusal, factsFor, lineFacts}
-use Rattle.bits.proofs.Choice.{and-true}
-use Rattle.raster.proofs.All.{all}
+use Rattle.bits.proofs.Choice.{and-true, if-zero}
+use Rattle.raster.proofs.Each.{each}
 use Rattle.raster.proofs.Table.{entry-all, raster-range}
 
 -- ---- between
@@ -49,7 +49,7 @@ abbrev pub pictured : Entry → Bool
 pictured e = eqb (pictureLines (e .rows) (e .kind) (e .rows)) (picture (e .rows))
 
 -- V is 0 on exactly so many lines, over all entries of the table
-pub picture-lines-table : T (all pictured table)
+pub picture-lines-table : T (each pictured table)
 picture-lines-table = tt
 
 pub picture-lines : (code : ℕ) → rasterOk code ≡ true
@@ -71,12 +71,9 @@ lineOk-range code line ok on =
 
 -- 0 exactly when raster and line are right
 pub lineRefusal-ok : (code line : ℕ) → lineRefusal code line ≡ 0 → (rasterOk code ≡ true) × (lineOk code line ≡ true)
-lineRefusal-ok code line e = go (rasterOk code) (lineOk code line) e
-  where
-    go : (a b : Bool) → if {A = ℕ} a (if b 0 5) 4 ≡ 0 → (a ≡ true) × (b ≡ true)
-    go true true q = (refl, refl)
-    go true false q = absurd (omega arith)
-    go false b q = absurd (omega arith)
+lineRefusal-ok code line e =
+    let a = if-zero (rasterOk code) _ 3 e in
+    (a .0, if-zero (lineOk code line) 0 4 (a .1) .0)
 
 pub ok-lineRefusal : (code line : ℕ) → rasterOk code ≡ true → lineOk code line ≡ true → lineRefusal code line ≡ 0
 ok-lineRefusal code line ok on = rw (ok, on)

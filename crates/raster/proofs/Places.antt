@@ -10,7 +10,7 @@ use Rattle.raster.specs.declared.Entry.{Entry}
 use Rattle.raster.specs.declared.Layout.{Layout}
 use Rattle.raster.specs.Layout.{blanks, hd}
 use Rattle.raster.specs.Table.{table, noEntry, meant, entryOf, rasterOk, lookedUp}
-use Rattle.raster.proofs.All.{all, all2, all2-at}
+use Rattle.raster.proofs.Each.{each, each2, each2-at}
 use Rattle.raster.proofs.Table.{meant-range, entry-all, lookedUp-found}
 
 -- the parts of a row, one after the other: EAV, line number, CRC, blanking, SAV, active words
@@ -24,7 +24,7 @@ abbrev pub sums : Entry → Bool
 sums e = eqb (rowSum (layoutOf e)) (e .total)
 
 -- the parts make the row, over all entries of the table
-pub layout-sum-table : T (all sums table)
+pub layout-sum-table : T (each sums table)
 layout-sum-table = tt
 
 -- the layout that a code's answer has is that of its row
@@ -43,7 +43,7 @@ abbrev pub agrees : Entry → ℕ → Bool
 agrees e hanc = eqb (e .total - e .active - 12) hanc
 
 -- ".. agree with T-A-12", over all entries of the table
-pub blanking-length-table : T (all2 agrees table hancLengths)
+pub blanking-length-table : T (each2 agrees table hancLengths)
 blanking-length-table = tt
 
 -- "blanking T-A-12": what stands between the CRC and the SAV
@@ -55,4 +55,4 @@ unfolding entryOf
 blanking-length code ok =
     let r = meant-range code ok in
     rw (layout-of code ok, blanks-of-hd)
-    (eqb→eq _ _ (all2-at agrees table hancLengths noEntry 0 blanking-length-table (meant code - 1) (omega arith)))
+    (eqb→eq _ _ (each2-at agrees table hancLengths noEntry 0 blanking-length-table (meant code - 1) (omega arith)))

@@ -15,8 +15,8 @@ use Rattle.raster.specs.declared.Kind.{Kind}
 use Rattle.raster.specs.declared.Kind.the-variants.{Progressive, TwoFields}
 use Rattle.raster.specs.declared.Raster.{Raster}
 use Rattle.raster.specs.Table.{table, noEntry, meant, entryOf, rasterOk, rasterAt, noRaster, lookedUp, sameKind, fits, nameFrom, nameOf}
-use Rattle.bits.proofs.Choice.{false-not-true, and-true}
-use Rattle.raster.proofs.All.{all, all-at}
+use Rattle.bits.proofs.Choice.{false-not-true, and-true, if-zero}
+use Rattle.raster.proofs.Each.{each, each-at}
 
 -- ---- meant
 
@@ -34,9 +34,9 @@ meant-ok code ok = le-leb (meant code) 11 (meant-range code ok .1)
 -- ---- entryOf
 
 -- what passes at every entry of the table passes at the row of every code
-pub entry-all : (f : Entry → Bool) → T (all f table) → (code : ℕ) → rasterOk code ≡ true → T (f (entryOf code))
+pub entry-all : (f : Entry → Bool) → T (each f table) → (code : ℕ) → rasterOk code ≡ true → T (f (entryOf code))
 unfolding entryOf
-entry-all f t code ok = let r = meant-range code ok in all-at f table noEntry t (meant code - 1) (omega arith)
+entry-all f t code ok = let r = meant-range code ok in each-at f table noEntry t (meant code - 1) (omega arith)
 
 -- ---- lookedUp
 
@@ -57,14 +57,7 @@ lookedUp-refusal code = go (rasterOk code) refl
 
 -- refusal 0 exactly when the code is one of 0..11
 pub refusal-ok : (code : ℕ) → lookedUp code .refusal ≡ 0 → rasterOk code ≡ true
-refusal-ok code e = go (rasterOk code) (sym (lookedUp-refusal code) ∙ e)
-  where
-    go : (b : Bool) → if {A = ℕ} b 0 4 ≡ 0 → b ≡ true
-    go true q = refl
-    go false q = absurd (omega arith)
-
-pub ok-refusal : (code : ℕ) → rasterOk code ≡ true → lookedUp code .refusal ≡ 0
-ok-refusal code ok = lookedUp-refusal code ∙ rw ok
+refusal-ok code e = if-zero (rasterOk code) 0 3 (sym (lookedUp-refusal code) ∙ e) .0
 
 pub refusal-bad : (code : ℕ) → (lookedUp code .refusal ≡ 0 → ⊥) → rasterOk code ≡ false
 refusal-bad code h = go (rasterOk code) (λ e. h (lookedUp-refusal code ∙ e))
@@ -72,9 +65,6 @@ refusal-bad code h = go (rasterOk code) (λ e. h (lookedUp-refusal code ∙ e))
     go : (b : Bool) → (if {A = ℕ} b 0 4 ≡ 0 → ⊥) → b ≡ false
     go true q = absurd (q refl)
     go false q = refl
-
-pub bad-refusal : (code : ℕ) → rasterOk code ≡ false → lookedUp code .refusal ≡ 4
-bad-refusal code bad = lookedUp-refusal code ∙ rw bad
 
 -- "Code 0 stands for 7"
 pub lookedUp-zero : lookedUp 0 ≡ lookedUp 7

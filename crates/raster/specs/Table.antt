@@ -71,6 +71,13 @@ lookedUp code =
     if (rasterOk code) (record { refusal = 0; raster = rasterAt (meant code) (entryOf code) })
     (record { refusal = 4; raster = noRaster })
 
+-- T and N of a raster
+abbrev pub totalOf : ℕ → ℕ
+totalOf code = lookedUp code .raster .layout .total
+
+abbrev pub rowsOf : ℕ → ℕ
+rowsOf code = lookedUp code .raster .rows
+
 -- "Naming a raster takes T, A, N and kind, and answers the code, or 0 when no row of the table fits."
 abbrev pub sameKind : Kind → Kind → Bool
 sameKind k l = eqb (kindNumber k) (kindNumber l)

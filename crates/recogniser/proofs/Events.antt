@@ -1,6 +1,6 @@
 -- Laws of the sync's number and of what a bit completes.
 use mathlib.Core.Path.{_≡_, refl}
-use mathlib.Core.Bool.{Bool, true, false, _||_}
+use mathlib.Core.Bool.{Bool, true, false, or-true, or-false}
 use Prim.Native.Nat.{ℕ, _-_}
 use lib.Dec.{eqb}
 use borrow.Author.Tests.{eqb-true, eq-eqb, ne-eqb}
@@ -14,7 +14,7 @@ use Rattle.recogniser.specs.declared.Event.{Event}
 use Rattle.recogniser.specs.Sight.{isSync, yWord, isEav, windowAfter}
 use Rattle.recogniser.specs.Event.{eavEnds, eventOf, lookedAt, looked}
 
-sync-number : number (syncOf hdUnit) ≡ 0xfffff
+pub sync-number : number (syncOf hdUnit) ≡ 0xfffff
 unfolding number
 sync-number = refl
 
@@ -27,14 +27,6 @@ isSync-other last g = rw sync-number (ne-eqb last 0xfffff g)
 -- an EAV ends with its XYZ pair's last bit
 pub eavEnds-ahead : (ahead last : ℕ) → eavEnds ahead last ≡ true → ahead ≡ 1
 eavEnds-ahead ahead last e = eqb-true ahead 1 (and-true (eqb ahead 1) (isEav (yWord last)) e .0)
-
-pub or-true : (a : Bool) → (a || true) ≡ true
-or-true true = refl
-or-true false = refl
-
-or-false : (a : Bool) → (a || false) ≡ a
-or-false true = refl
-or-false false = refl
 
 abbrev window : ℕ → ℕ → Bool → Window
 window last ahead seen = record { last = last; ahead = ahead; seen = seen }

@@ -1,6 +1,6 @@
 -- Laws that tie a window to the bits that came.
 use mathlib.Core.Path.{_≡_, refl, sym, ap, ap₂, _∙_}
-use mathlib.Core.Bool.{Bool, true, false, _||_}
+use mathlib.Core.Bool.{Bool, true, false, _||_, or-true}
 use mathlib.Core.List.{List, [], _∷_, _++_, append-assoc, append-nil}
 use mathlib.Core.Logic.{_⊎_, inl, inr}
 use mathlib.Core.Option.{Option, none, some}
@@ -19,7 +19,6 @@ use Rattle.align.specs.Search.{slid}
 use Rattle.align.proofs.FirstSync.{starts-of-append, none-means-none, no-place, first-is-sync, first-of-append, first-before-append}
 use Rattle.recogniser.specs.declared.Window.{Window}
 use Rattle.recogniser.specs.Sight.{isSync, cWord, yWord, aheadAfter, windowAfter}
-use Rattle.recogniser.proofs.Events.{or-true}
 
 -- ---- the end of some bits z and of those that came: as many bits as z has
 

@@ -21,9 +21,10 @@ eavEnds ahead last = eqb ahead 1 && isEav (yWord last)
 abbrev pub isFourth : ℕ → ℕ → Bool
 isFourth total pairs = leb (total + 3) pairs
 
--- "A row opens at a sync whose Y XYZ is an exact EAV code, also where that EAV has just ended or dropped another row. It is complete when
--- the next EAV comes T pairs later"; "One fault each: .. an EAV at another distance; the four pairs after the T-th not an EAV; a sync at another alignment.
--- The last three arise only while a row is open, at the last bit of that XYZ pair, of those four pairs or of that sync"
+-- "A row opens at a sync whose Y XYZ is an exact EAV code, also where that EAV has just ended or dropped another row.
+-- It is complete when the next EAV comes T pairs later"; "One fault each: .. an EAV at another distance; the four pairs
+-- after the T-th not an EAV; a sync at another alignment. The last three arise only while a row is open, at the last bit
+-- of that XYZ pair, of those four pairs or of that sync"
 -- A sync stands at the open row's own alignment where it ends with a pair, at the pair's twentieth bit, and is nothing by itself then.
 -- An EAV at another distance is an early one: after the fourth pair the row is no longer open.
 unfoldable pub eventOf : ℕ → ℕ → Place → ℕ → Event

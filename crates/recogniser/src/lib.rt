@@ -1,4 +1,5 @@
 // The recogniser: what each unscrambled bit completes. It sees bits and no rows.
+use align::SYNC;
 use timing::Timing;
 ghost use mathlib.Core.Path.{_≡_};
 ghost use Rattle.align.specs.Search.{slid};
@@ -47,9 +48,6 @@ pub struct Looked {
     pub event: Event,
     pub sight: Sight,
 }
-
-// The last sixty bits when they are a sync: 20 ones, then 40 zeros.
-const SYNC: u64 = 0xfffff;
 
 // One bit more, one less.
 fn slide(last: u64, bit: bool) -> u64

@@ -4,30 +4,23 @@ use mathlib.Core.Bool.{Bool, true, false}
 use mathlib.Core.List.{List}
 use Prim.Native.Nat.{ℕ, zero, suc}
 use Rattle.bits.specs.Choice.{if}
-use Rattle.bits.proofs.Choice.{and-true}
 use Rattle.crc.specs.Crc.{registerOk}
 use Rattle.plan.specs.declared.Plan.{Plan}
+use Rattle.plan.specs.Fits.{Fits}
 use Rattle.plan.specs.Plan.{planOf}
 use Rattle.plan.specs.Refusal.{orRefusal}
-use Rattle.plan.proofs.Plans.{Fits, Plain, planOf-fits, planOf-plain}
+use Rattle.plan.proofs.Plans.{Plain, planOf-fits, planOf-plain}
 use Rattle.plan.proofs.Rows.{rowRefusal-ok}
 use Rattle.scan.proofs.Remade.{unfit-never}
 use Rattle.region.specs.Ancillary.{ancillary}
 use Rattle.stream.specs.Words.{yBlank, cBlank}
 use Rattle.stream.proofs.Makeable.{unmakeable-never}
 use Rattle.row.specs.declared.Carry.{Carry}
-use Rattle.row.specs.declared.Carry.the-variants.{Nothing, Registers}
 use Rattle.row.specs.Before.{carried, carryOk}
 use Rattle.row.specs.Row.{checkRefusal}
-use Rattle.row.proofs.Rows.{checkRefusal-ok}
+use Rattle.row.proofs.Rows.{carried-ok, checkRefusal-ok}
 use Rattle.repair.specs.Repair.{wipedIf}
 use Rattle.repair.specs.Answer.{unmakeableStream, unmakeableRow, correctRefusal}
-
--- ---- row's carry
-
-carried-ok : (carry : Carry) → carryOk carry ≡ true → (registerOk (carried carry .y) ≡ true) × (registerOk (carried carry .c) ≡ true)
-carried-ok Nothing e = (refl, refl)
-carried-ok (Registers y c) e = and-true (registerOk y) (registerOk c) e
 
 -- ---- unmakeableRow
 

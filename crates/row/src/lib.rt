@@ -1,4 +1,5 @@
 // A row of two channels: its flags and the carry that it leaves.
+use crc::REGISTER_TOP;
 use plan::Plan;
 use stream::Faults;
 ghost use mathlib.Core.Path.{_≡_};
@@ -53,10 +54,10 @@ pub fn carry_ok(carry: Carry) -> bool
     match carry {
         Carry::Nothing => true,
         Carry::Registers(y, c) => {
-            if 0x3ffff < y {
+            if REGISTER_TOP < y {
                 return false;
             }
-            c <= 0x3ffff
+            c <= REGISTER_TOP
         }
     }
 }

@@ -10,7 +10,7 @@ use Rattle.bits.proofs.Lists.{cons-head}
 use Rattle.parts.specs.Parts.{part, same, inPart, laid}
 use Rattle.parts.proofs.Inside.{inPart-laid}
 use Rattle.plan.specs.declared.Plan.{Plan}
-use Rattle.plan.proofs.Plans.{Fits}
+use Rattle.plan.specs.Fits.{Fits}
 use Rattle.scan.specs.Packet.{marked, fits}
 use Rattle.scan.specs.Scan.{pieceAt, scanFrom, scan}
 use Rattle.region.specs.Region.{mended, wiped}

@@ -1,6 +1,6 @@
 -- Laws of a stream that is built: its length, and what stands at each of its places.
 use mathlib.Core.Path.{_≡_, refl, ap, _∙_}
-use mathlib.Core.Bool.{Bool, true, false}
+use mathlib.Core.Bool.{Bool, false}
 use mathlib.Core.List.{List, [], _∷_, _++_, append-assoc}
 use Prim.Native.Nat.{ℕ, _+_, _-_, _≤_}
 use native.Mathlib.Omega.{arith}
@@ -9,11 +9,11 @@ use lib.Seq.{take-all, take-at, drop-append-add}
 use Rattle.crc.specs.Crc.{crcStart, crcWords}
 use Rattle.parts.specs.Parts.{part}
 use Rattle.plan.specs.declared.Plan.{Plan}
-use Rattle.plan.proofs.Plans.{Fits}
+use Rattle.plan.specs.Fits.{Fits}
 use Rattle.region.specs.Ancillary.{blankingOf, activeOf}
 use Rattle.stream.specs.Words.{trs, lineWordsOf, headWords, eavOf, linesOf, headOf, checksOf, savOf, registerAfter}
 use Rattle.compose.specs.Compose.{crcFor, blankingFor, streamOf}
-use Rattle.compose.proofs.Laying.{length-pair}
+use Rattle.compose.proofs.Laying.{length-lineWordsOf, length-headWords, length-crcFor}
 
 -- ---- lower crates: parts, part
 
@@ -23,23 +23,10 @@ part-at a b count e = take-at a b count e
 part-after : (a b : List ℕ) (from n count : ℕ) → length a + n ≡ from → part from count (a ++ b) ≡ part n count b
 part-after a b from n count e = rw (← e) (ap (take count) (drop-append-add a b n))
 
--- ---- lengths
-
-module _ (p : Plan) (fits : Fits (p .places)) where
-  length-lineWordsOf : length (lineWordsOf p) ≡ p .places .lines
-  length-lineWordsOf = length-pair (p .places .lines) _ _ (fits .lines)
-
-  length-headWords : length (headWords p) ≡ p .places .crc
-  length-headWords = omega (arith, length-lineWordsOf)
-
-  length-crcFor : (known : Bool) (r : ℕ) → length (crcFor p known r) ≡ p .places .checks
-  length-crcFor true r = length-pair (p .places .checks) _ _ (fits .checks)
-  length-crcFor false r = length-pair (p .places .checks) _ _ (fits .checks)
-
-  length-blankingFor : (blank : ℕ) (laid : List ℕ) → length laid ≤ p .places .blanks → length (blankingFor p blank laid) ≡ p .places .blanks
-  length-blankingFor blank laid room = simp (length-append, length-replicate) (omega arith)
-
 -- ---- streamOf
+
+length-blankingFor : (p : Plan) (blank : ℕ) (laid : List ℕ) → length laid ≤ p .places .blanks → length (blankingFor p blank laid) ≡ p .places .blanks
+length-blankingFor p blank laid room = simp (length-append, length-replicate) (omega arith)
 
 module _
     (p : Plan)
@@ -69,7 +56,7 @@ module _
     from-sav : (from k count : ℕ) → p .places .sav + k ≡ from → part from count whole ≡ part k count (trs (p .codes .sav) ++ active)
     from-sav from k count e =
         from-blank from (p .places .blanks + k) count (omega arith)
-        ∙ part-after (blankingFor p blank laid) _ (p .places .blanks + k) k count (omega (arith, length-blankingFor p fits blank laid room))
+        ∙ part-after (blankingFor p blank laid) _ (p .places .blanks + k) k count (omega (arith, length-blankingFor p blank laid room))
 
     pub eavOf-streamOf : eavOf p whole ≡ trs (p .codes .eav)
     unfolding streamOf
@@ -92,7 +79,7 @@ module _
     pub blankingOf-streamOf : blankingOf p whole ≡ blankingFor p blank laid
     blankingOf-streamOf =
         from-blank (p .places .blank) 0 (p .places .blanks) (omega arith)
-        ∙ part-at (blankingFor p blank laid) _ (p .places .blanks) (length-blankingFor p fits blank laid room)
+        ∙ part-at (blankingFor p blank laid) _ (p .places .blanks) (length-blankingFor p blank laid room)
 
     pub savOf-streamOf : savOf p whole ≡ trs (p .codes .sav)
     savOf-streamOf = from-sav (p .places .sav) 0 4 (omega arith)

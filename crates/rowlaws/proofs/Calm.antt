@@ -1,39 +1,20 @@
 -- Laws of regions in which no packet is cut and every checksum is right.
-use mathlib.Core.Path.{_≡_, refl, sym, ap, _∙_}
-use mathlib.Core.Bool.{Bool, true, false, not, _||_}
+use mathlib.Core.Path.{_≡_, refl, sym, _∙_}
+use mathlib.Core.Bool.{Bool, true, false, not}
 use mathlib.Core.List.{List, [], _∷_, _++_, map, flatMap}
-use Prim.Native.Nat.{ℕ, zero, suc}
+use Prim.Native.Nat.{ℕ}
 use lib.Dec.{eqb}
 use lib.ListN.{length, replicate}
 use borrow.Author.Tests.{not-true, not-false, ne-eqb}
 use Rattle.bits.specs.Words.{reservedCode}
 use Rattle.bits.proofs.Choice.{and-true, false-not-true}
 use Rattle.bits.proofs.Lists.{cons-equal}
-use Rattle.parts.specs.Parts.{any}
-use Rattle.parts.proofs.Comparing.{any-of-append, any-cons}
+use Rattle.parts.specs.Parts.{any, endToEnd}
+use Rattle.parts.proofs.Comparing.{any-of-append, any-weaken, any-of-map, any-of-replicate}
 use Rattle.scan.specs.Packet.{marked, sizeOf, checksumIn, rightChecksum}
 use Rattle.scan.specs.Scan.{Piece, Word, Marker, Packet, wordsOf, scan, scanFrom, cutPiece, wrongSum}
-use Rattle.scan.proofs.Remade.{isPacket, unsettled, scan-of-settled}
-use Rattle.rowlaws.specs.Lawful.{rightPacket, allRight, endToEnd}
-
--- ---- lower crates: parts, any
-
-any-weaken : {A : Type 0} (p q : A → Bool) → ((x : A) → p x ≡ false → q x ≡ false) → (xs : List A) → any p xs ≡ false → any q xs ≡ false
-unfolding any
-any-weaken p q w [] e = refl
-any-weaken p q w (x ∷ xs) e =
-    let b = any-cons p x xs e in
-    rw (w x (b .0)) (any-weaken p q w xs (b .1))
-
-any-of-map : {A B : Type 0} (p : B → Bool) (f : A → B) (xs : List A) → any p (map f xs) ≡ any (λ x. p (f x)) xs
-unfolding any
-any-of-map p f [] = refl
-any-of-map p f (x ∷ xs) = ap (λ (b : Bool). p (f x) || b) (any-of-map p f xs)
-
-any-of-replicate : {A : Type 0} (p : A → Bool) (n : ℕ) (x : A) → p x ≡ false → any p (replicate n x) ≡ false
-unfolding any
-any-of-replicate p zero x e = refl
-any-of-replicate p (suc n) x e = rw e (any-of-replicate p n x e)
+use Rattle.scan.proofs.Remade.{isPacket, unsettled, scan-of-settled, words-of-packets}
+use Rattle.rowlaws.specs.Lawful.{rightPacket, allRight}
 
 -- ---- calm regions
 
@@ -43,7 +24,7 @@ troubled (Word w) = eqb w 0
 troubled Marker = true
 troubled (Packet p) = not (rightPacket p)
 
-right-packet : (p : List ℕ) → not (rightPacket p) ≡ false → (isPacket p ≡ true) × (eqb (checksumIn p) (rightChecksum p) ≡ true)
+pub right-packet : (p : List ℕ) → not (rightPacket p) ≡ false → (isPacket p ≡ true) × (eqb (checksumIn p) (rightChecksum p) ≡ true)
 right-packet p e =
     let m = and-true (marked p) _ (not-false (rightPacket p) e) in
     let l = and-true (eqb (length p) (sizeOf p)) _ (m .1) in
@@ -81,13 +62,8 @@ calm-pieces ps z e c =
     }
 
 pub calm-packets : (packets : List (List ℕ)) (z : List ℕ) → allRight packets ≡ true → Calm z → Calm (endToEnd packets ++ z)
-unfolding flatMap
 calm-packets packets z e c =
-    rw (words packets) (calm-pieces (map Packet packets) z (any-of-map troubled Packet packets ∙ not-true _ e) c)
-  where
-    words : (ps : List (List ℕ)) → endToEnd ps ≡ flatMap wordsOf (map Packet ps)
-    words [] = refl
-    words (p ∷ ps) = ap (λ (l : List ℕ). p ++ l) (words ps)
+    rw (← words-of-packets packets) (calm-pieces (map Packet packets) z (any-of-map troubled Packet packets ∙ not-true _ e) c)
 
 calm-words : (ws : List ℕ) → any (λ w. eqb w 0) ws ≡ false → Calm ws
 unfolding flatMap

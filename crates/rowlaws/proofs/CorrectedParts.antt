@@ -11,13 +11,14 @@ use Rattle.parts.proofs.Laid.{length-laid, part-before-laid, part-after-laid, p
 use Rattle.parts.proofs.Inside.{length-part, part-of-inPart, part-before-inPart, part-after-inPart}
 use Rattle.crc.specs.Crc.{crcWords}
 use Rattle.plan.specs.declared.Plan.{Plan}
-use Rattle.plan.proofs.Plans.{Fits}
+use Rattle.plan.specs.Fits.{Fits}
 use Rattle.region.specs.Region.{mended, wiped}
 use Rattle.region.specs.Ancillary.{blankingOf, activeOf, inRegions}
 use Rattle.region.proofs.Pieces.{length-mended, length-wiped}
 use Rattle.region.proofs.Regions.{length-inRegions, blankingOf-inRegions}
 use Rattle.stream.specs.Words.{trs, lineWordsOf, checkWords, eavOf, linesOf, checksOf, savOf, coveredBy}
 use Rattle.repair.specs.Repair.{wipedIf, withSums, withCodes, withCrc}
+use Rattle.compose.proofs.Laying.{length-lineWordsOf}
 
 -- ---- parts' laid: over a part as long as the words
 
@@ -95,9 +96,6 @@ module _ (p : Plan) (fits : Fits (p .places)) (ws : List ℕ) where
 -- ---- withCodes: the codes and the line number, and what lies between and after them
 
 module _ (p : Plan) (fits : Fits (p .places)) (ws : List ℕ) where
-  lineWords-length : length (lineWordsOf p) ≡ 2
-  lineWords-length = rw (fits .lines)
-
   pub withCodes-eav : length ws ≡ p .places .total → eavOf p (withCodes p ws) ≡ trs (p .codes .eav)
   unfolding withCodes
   withCodes-eav long =
@@ -109,12 +107,12 @@ module _ (p : Plan) (fits : Fits (p .places)) (ws : List ℕ) where
   withCodes-lines long =
       let buffer = laid 0 (trs (p .codes .eav)) ws in
       part-before-laid 4 (p .places .lines) (p .places .sav) _ _ (omega arith)
-      ∙ laid-part 4 (p .places .lines) (lineWordsOf p) buffer (omega (arith, lineWords-length)) (omega (arith, length-laid 0 (trs (p .codes .eav)) ws))
+      ∙ laid-part 4 (p .places .lines) (lineWordsOf p) buffer (length-lineWordsOf p fits) (omega (arith, length-laid 0 (trs (p .codes .eav)) ws))
 
   pub withCodes-between : (start n : ℕ) → 6 ≤ start → start + n ≤ p .places .sav → part start n (withCodes p ws) ≡ part start n ws
   unfolding withCodes
   withCodes-between start n from to =
-      part-before-laid start n (p .places .sav) _ _ to ∙ part-after-laid start n 4 (lineWordsOf p) _ (omega (arith, lineWords-length))
+      part-before-laid start n (p .places .sav) _ _ to ∙ part-after-laid start n 4 (lineWordsOf p) _ (omega (arith, length-lineWordsOf p fits))
       ∙ part-after-laid start n 0 _ ws (omega arith)
 
   pub withCodes-sav : length ws ≡ p .places .total → savOf p (withCodes p ws) ≡ trs (p .codes .sav)
@@ -128,7 +126,7 @@ module _ (p : Plan) (fits : Fits (p .places)) (ws : List ℕ) where
   unfolding withCodes
   withCodes-after start n from =
       part-after-laid start n (p .places .sav) (trs (p .codes .sav)) _ (omega arith)
-      ∙ part-after-laid start n 4 (lineWordsOf p) _ (omega (arith, lineWords-length))
+      ∙ part-after-laid start n 4 (lineWordsOf p) _ (omega (arith, length-lineWordsOf p fits))
       ∙ part-after-laid start n 0 (trs (p .codes .eav)) ws (omega arith)
 
 -- ---- withCrc

@@ -9,8 +9,9 @@ use Rattle.bits.specs.Bits.{number}
 use Rattle.bits.proofs.Bits.{number-shr}
 use Rattle.raster.specs.Lines.{lineRefusal}
 use Rattle.plan.specs.declared.Plan.{Plan}
+use Rattle.plan.specs.Fits.{Fits}
 use Rattle.plan.specs.Plan.{planOf}
-use Rattle.plan.proofs.Plans.{Fits, planOf-fits}
+use Rattle.plan.proofs.Plans.{planOf-fits}
 use Rattle.stream.specs.declared.Faults.{Faults}
 use Rattle.stream.specs.Words.{yBlank, cBlank}
 use Rattle.stream.specs.Faults.{faultsOf}

@@ -4,19 +4,17 @@ use mathlib.Core.Bool.{Bool, true, false, _&&_}
 use mathlib.Core.List.{List, []}
 use Prim.Native.Nat.{ℕ, _-_, _≤_}
 use native.Mathlib.Omega.{arith}
-use lib.Dec.{eqb}
 use lib.ListN.{length}
-use borrow.Author.Tests.{eqb-true, leb-true}
 use Rattle.bits.specs.Bits.{number}
 use Rattle.bits.specs.Choice.{if}
 use Rattle.bits.specs.Words.{reservedCode}
-use Rattle.bits.proofs.Choice.{and-true}
 use Rattle.raster.specs.Lines.{lineRefusal}
-use Rattle.parts.specs.Parts.{any}
+use Rattle.parts.specs.Parts.{any, endToEnd}
 use Rattle.parts.proofs.Comparing.{same-refl, any-of-append}
 use Rattle.plan.specs.declared.Plan.{Plan}
+use Rattle.plan.specs.Fits.{Fits}
 use Rattle.plan.specs.Plan.{planOf}
-use Rattle.plan.proofs.Plans.{Fits, planOf-fits}
+use Rattle.plan.proofs.Plans.{planOf-fits}
 use Rattle.region.specs.Ancillary.{ancillary}
 use Rattle.stream.specs.declared.Faults.{Faults}
 use Rattle.stream.specs.Words.{yBlank, cBlank, checksOf, checkWords, coveredBy}
@@ -25,7 +23,8 @@ use Rattle.row.specs.declared.Carry.{Carry}
 use Rattle.row.specs.Before.{carried, carryOk}
 use Rattle.row.specs.Row.{joined, flagsOf}
 use Rattle.compose.specs.Compose.{streamOf, yStream, cStream, lengthsOk}
-use Rattle.rowlaws.specs.Lawful.{allRight, endToEnd}
+use Rattle.compose.proofs.Refusal.{lengths-of}
+use Rattle.rowlaws.specs.Lawful.{allRight}
 use Rattle.rowlaws.proofs.BuiltParts.{eavOf-streamOf, linesOf-streamOf, headOf-streamOf, checksOf-streamOf, blankingOf-streamOf, savOf-streamOf, activeOf-streamOf}
 use Rattle.rowlaws.proofs.Calm.{Calm, calm-none, calm-packets, calm-blanks, calm-plain}
 
@@ -90,8 +89,8 @@ module _ (code line : ℕ) (ok : lineRefusal code line ≡ 0) (known : Bool) (r 
   faultsOf-planned : lengthsOk (planOf code line) active (endToEnd packets) ≡ true → allRight packets ≡ true → any reservedCode active ≡ false
       → (blank ≡ 0 → ⊥) → faultsOf (planOf code line) known r (streamOf (planOf code line) known r blank active (endToEnd packets)) ≡ noFaults
   faultsOf-planned lengths right plain some =
-      let b = and-true (eqb (length active) (planOf code line .places .count)) _ lengths in
-      faultsOf-streamOf (planOf code line) (planOf-fits code line ok) r blank active packets (eqb-true _ _ (b .0)) (leb-true _ _ (b .1)) right plain some known
+      let long = lengths-of (planOf code line) active (endToEnd packets) lengths in
+      faultsOf-streamOf (planOf code line) (planOf-fits code line ok) r blank active packets (long .0) (long .1) right plain some known
 
 pub built-no-flag : (code line : ℕ) (carry : Carry) (yActive cActive : List ℕ) (yPackets cPackets : List (List ℕ))
     → lineRefusal code line ≡ 0

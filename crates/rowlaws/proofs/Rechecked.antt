@@ -10,7 +10,7 @@ use Rattle.parts.specs.Parts.{any}
 use Rattle.parts.proofs.Comparing.{same-refl}
 use Rattle.scan.specs.Scan.{scan, cutPiece, wrongSum}
 use Rattle.plan.specs.declared.Plan.{Plan}
-use Rattle.plan.proofs.Plans.{Fits}
+use Rattle.plan.specs.Fits.{Fits}
 use Rattle.region.specs.Region.{mended}
 use Rattle.region.specs.Ancillary.{blankingOf, activeOf, ancillary}
 use Rattle.region.proofs.Regions.{ancillary-right, ancillary-cut}

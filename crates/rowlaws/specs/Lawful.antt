@@ -1,6 +1,6 @@
 -- What is laid into a row that has no flag.
 use mathlib.Core.Bool.{Bool, not, _&&_}
-use mathlib.Core.List.{List, flatMap}
+use mathlib.Core.List.{List}
 use Prim.Native.Nat.{ℕ}
 use lib.Dec.{eqb}
 use lib.ListN.{length}
@@ -13,7 +13,3 @@ rightPacket p = marked p && (eqb (length p) (sizeOf p) && eqb (checksumIn p) (ri
 
 abbrev pub allRight : List (List ℕ) → Bool
 allRight packets = not (any (λ p. not (rightPacket p)) packets)
-
--- "whole packets end to end"
-abbrev pub endToEnd : List (List ℕ) → List ℕ
-endToEnd packets = flatMap (λ p. p) packets

@@ -1,6 +1,6 @@
 -- Laws of pieces and of the scan.
 use mathlib.Core.Path.{_≡_, refl, sym, ap, subst, _∙_}
-use mathlib.Core.Bool.{Bool, true, false, not, _||_, or-true, or-false, or-assoc}
+use mathlib.Core.Bool.{Bool, true, false, not, _||_, and-false, or-true, or-false, or-assoc}
 use mathlib.Core.List.{List, [], _∷_, flatMap}
 use Prim.Native.Nat.{ℕ, zero, suc, _+_, _-_, _%_, _≤_, _<_}
 use native.Mathlib.Omega.{arith}
@@ -11,7 +11,6 @@ use lib.Seq.{length-take-le, drop-drop, getD-drop, getD-take}
 use borrow.Author.Tests.{le-leb, lt-leb}
 use Rattle.bits.specs.Choice.{if}
 use Rattle.bits.specs.Words.{nineOf, reservedCode}
-use Rattle.bits.proofs.Choice.{and-false}
 use Rattle.parts.specs.Parts.{any}
 use Rattle.scan.specs.declared.Here.{Here}
 use Rattle.scan.specs.declared.Here.the-variants.{Nothing, Cut, Whole}

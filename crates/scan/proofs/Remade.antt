@@ -11,8 +11,8 @@ use lib.Seq.{length-take-le, drop-append-seam, getD-take, take-take, take-at, ta
 use borrow.Author.Tests.{le-leb, not-true, not-false, eqb-true}
 use Rattle.bits.proofs.Choice.{and-true, false-not-true}
 use Rattle.bits.proofs.Lists.{cons-equal}
-use Rattle.parts.specs.Parts.{same, any}
-use Rattle.parts.proofs.Comparing.{any-cons}
+use Rattle.parts.specs.Parts.{same, any, endToEnd}
+use Rattle.parts.proofs.Comparing.{any-cons, any-of-map}
 use Rattle.scan.specs.Packet.{marker, marked, sizeOf, fits, summed}
 use Rattle.scan.specs.Scan.{Piece, Word, Marker, Packet, wordsOf, pieceAt, scanFrom, scan, unfitSum}
 use Rattle.scan.proofs.Packets.{fits-room, checksum-not-reserved}
@@ -98,6 +98,16 @@ scan-of-settled (p ∷ ps) z s =
     ap scan (append-assoc (wordsOf p) (flatMap wordsOf ps) z)
     ∙ scan-of-piece p y (pieceAt-of-settled p y (not-false (settled p) (b .0)))
     ∙ ap (λ (qs : List Piece). p ∷ qs) (scan-of-settled ps z (b .1))
+
+-- ---- whole packets end to end, as pieces
+
+pub words-of-packets : (l : List (List ℕ)) → flatMap wordsOf (map Packet l) ≡ endToEnd l
+unfolding flatMap
+words-of-packets [] = refl
+words-of-packets (p ∷ l) = ap (λ (ws : List ℕ). p ++ ws) (words-of-packets l)
+
+pub settled-packets : (l : List (List ℕ)) → any (λ p. not (isPacket p)) l ≡ false → any unsettled (map Packet l) ≡ false
+settled-packets l e = any-of-map unsettled Packet l ∙ e
 
 -- ---- packets changed after their first six words
 

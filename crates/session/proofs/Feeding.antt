@@ -8,11 +8,12 @@ use lib.ListN.{length, getD}
 use Rattle.bits.specs.Bits.{wordBits}
 use Rattle.bits.specs.Words.{words10}
 use Rattle.bits.proofs.Words.{words10-head, words10-tail}
+use Rattle.raster.specs.Table.{totalOf}
 use Rattle.cable.specs.Words.{unscrambleWords, unscrambleNext}
 use Rattle.cable.proofs.Words.{unscramble-next-step, unscramble-next-none}
 use Rattle.laying.specs.Laying.{laidBy}
 use Rattle.session.specs.declared.Session.{Session}
-use Rattle.stepper.specs.Step.{Run, run, totalOf, steps}
+use Rattle.stepper.specs.Step.{Run, run, steps}
 use Rattle.session.specs.Session.{fedRun}
 
 -- the fold that a feed means, with T at hand

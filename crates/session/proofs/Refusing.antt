@@ -3,17 +3,17 @@ use mathlib.Core.Path.{_≡_, refl, sym, ap, _∙_}
 use mathlib.Core.Bool.{Bool, true, false, not, _&&_, _||_, Bool·not-not}
 use mathlib.Core.List.{List}
 use Prim.Native.Nat.{ℕ, zero, suc, _≤_}
-use native.Mathlib.Omega.{arith}
 use lib.Dec.{leb}
 use lib.ListN.{length}
 use borrow.Author.Tests.{leb-true}
 use Rattle.bits.specs.Choice.{if}
 use Rattle.bits.specs.Words.{words10}
-use Rattle.bits.proofs.Choice.{and-true}
-use Rattle.raster.specs.Table.{rasterOk}
+use Rattle.bits.proofs.Choice.{and-true, if-zero}
+use Rattle.raster.specs.Table.{rasterOk, totalOf}
 use Rattle.session.specs.declared.Session.{Session}
-use Rattle.stepper.specs.Step.{Run, totalOf}
-use Rattle.session.specs.Session.{rasterIn, inRange, feedRefusal, fedBy}
+use Rattle.stepper.specs.Step.{Run}
+use Rattle.session.specs.Session.{inRange, feedRefusal, fedBy}
+use Rattle.session.proofs.Ranges.{ranges}
 
 -- ---- the code's tests
 
@@ -31,29 +31,26 @@ pub fedBy-refused : (n : ℕ) (s : Session) (ws : List ℕ) (x : Run) → (n ≡
 fedBy-refused zero s ws x bad = absurd (bad refl)
 fedBy-refused (suc n) s ws x bad = refl
 
--- a session and words that are fed
-pub record Feeds (s : Session) (ws : List ℕ) : Type 0 where
+-- an open session in range, and buffers that a row fits into
+pub record Ready (s : Session) (y c : List ℕ) : Type 0 where
   pub running : s .running ≡ true
-  pub raster : rasterOk (s .raster) ≡ true
-  pub history : s .history ≤ 0x3ff
-  pub words : words10 ws ≡ true
+  pub in-range : inRange s ≡ true
+  pub y-room : totalOf (s .raster) ≤ length y
+  pub c-room : totalOf (s .raster) ≤ length c
 
-passed : (a b c : Bool) → if {A = ℕ} a (if b (if c 0 1) 3) 7 ≡ 0 → (a ≡ true) × (b ≡ true)
-passed true true c e = (refl, refl)
-passed true false c e = absurd (omega arith)
-passed false b c e = absurd (omega arith)
+pub ready-raster : {s : Session} {y c : List ℕ} → Ready s y c → rasterOk (s .raster) ≡ true
+ready-raster {s} r = and-true (leb 1 (s .raster)) (rasterOk (s .raster)) (rw (r .running) at (ranges s (r .in-range) .raster)) .1
 
-pub feedRefusal-none : (s : Session) (ws y c : List ℕ) → feedRefusal s ws y c ≡ 0 → Feeds s ws
-unfolding feedRefusal inRange
-feedRefusal-none s ws y c e =
-    let room = leb (totalOf (s .raster)) (length y) && leb (totalOf (s .raster)) (length c) in
-    let tests = passed (s .running && inRange s) (words10 ws) room e in
-    let session = and-true (s .running) (inRange s) (tests .0) in
-    let first = and-true (rasterIn (s .running) (s .raster)) _ (session .1) in
-    let code = rw (session .0) at (first .0) in
-    record {
-      running = session .0;
-      raster = and-true (leb 1 (s .raster)) (rasterOk (s .raster)) code .1;
-      history = leb-true (s .history) 0x3ff (and-true (leb (s .history) 0x3ff) _ (first .1) .0);
-      words = tests .1;
-    }
+pub ready-history : {s : Session} {y c : List ℕ} → Ready s y c → s .history ≤ 0x3ff
+ready-history {s} r = leb-true (s .history) 0x3ff (ranges s (r .in-range) .history)
+
+pub feed-taken : (s : Session) (ws y c : List ℕ) → feedRefusal s ws y c ≡ 0 → Ready s y c × (words10 ws ≡ true)
+unfolding feedRefusal
+feed-taken s ws y c e =
+    let t = totalOf (s .raster) in
+    let a = if-zero (s .running && inRange s) (if (words10 ws) (if (leb t (length y) && leb t (length c)) 0 1) 3) 6 e in
+    let b = if-zero (words10 ws) (if (leb t (length y) && leb t (length c)) 0 1) 2 (a .1) in
+    let d = if-zero (leb t (length y) && leb t (length c)) 0 0 (b .1) in
+    let r = and-true (s .running) (inRange s) (a .0) in
+    let l = and-true (leb t (length y)) (leb t (length c)) (d .0) in
+    (record { running = r .0; in-range = r .1; y-room = leb-true t (length y) (l .0); c-room = leb-true t (length c) (l .1) }, b .0)

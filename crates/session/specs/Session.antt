@@ -7,7 +7,7 @@ use lib.ListN.{length}
 use Rattle.bits.specs.Choice.{if}
 use Rattle.bits.specs.Bits.{wordBits}
 use Rattle.bits.specs.Words.{words10}
-use Rattle.raster.specs.Table.{meant, rasterOk, lookedUp}
+use Rattle.raster.specs.Table.{meant, rasterOk, totalOf, rowsOf}
 use Rattle.parts.specs.Parts.{unlessRefused}
 use Rattle.cable.specs.Words.{startHistory, unscrambleNext, unscrambleWords}
 use Rattle.row.specs.Before.{carried, carryOk}
@@ -24,7 +24,7 @@ use Rattle.session.specs.declared.Fed.{Fed}
 use Rattle.session.specs.declared.Ended.{Ended}
 use Rattle.tally.specs.declared.Verdict.the-variants.{Refused}
 use Rattle.tally.specs.Tally.{noCounts, verdictOf, labelFor}
-use Rattle.stepper.specs.Step.{Run, run, totalOf, steps}
+use Rattle.stepper.specs.Step.{Run, run, steps}
 
 -- "Begin sets history, counts and carry to zero or none.": no bits, no row, no line, no sync either
 abbrev pub startState : State
@@ -70,7 +70,7 @@ unfoldable pub inRange : Session → Bool
 inRange s =
     rasterIn (s .running) (s .raster)
     && (leb (s .history) 0x3ff
-    && (sightIn (totalOf (s .raster)) (s .state .sight) && trackIn (lookedUp (s .raster) .raster .rows) (s .state .track)))
+    && (sightIn (totalOf (s .raster)) (s .state .sight) && trackIn (rowsOf (s .raster)) (s .state .track)))
 
 -- ---- begin
 
@@ -126,7 +126,7 @@ endRefusal s = if (s .running && inRange s) 0 7
 unfoldable pub said : Session → List ℕ
 said s =
     if (s .running && inRange s)
-    (labelFor (s .state .sight .window .seen) (lookedUp (s .raster) .raster .rows) (s .state .counts))
+    (labelFor (s .state .sight .window .seen) (rowsOf (s .raster)) (s .state .counts))
     []
 
 -- "End answers raster, both counts and verdict, and one closed session"; "A refusal returns its number with zeros .. and changes .. no session."
@@ -136,7 +136,7 @@ endedBy zero s =
       refusal = 0;
       raster = s .raster;
       counts = s .state .counts;
-      verdict = verdictOf (s .state .sight .window .seen) (lookedUp (s .raster) .raster .rows) (s .state .counts);
+      verdict = verdictOf (s .state .sight .window .seen) (rowsOf (s .raster)) (s .state .counts);
       session = closed;
     }
 endedBy (suc n) s = record { refusal = suc n; raster = 0; counts = noCounts; verdict = Refused; session = s }

@@ -7,8 +7,8 @@ use Rattle.bits.specs.Words.{words10}
 use Rattle.bits.proofs.Words.{words10-append}
 use Rattle.session.specs.declared.Session.{Session}
 use Rattle.session.specs.Session.{feedRefusal}
+use Rattle.session.proofs.Refusing.{feed-taken}
 use Rattle.module.specs.Runs.{Bench, fedOnce, fedAll}
-use Rattle.module.proofs.Refusals.{feed-taken}
 use Rattle.module.proofs.Cuts.{fedAll-of-pieces}
 use Rattle.sessionuses.proofs.Refused.{feed-refused}
 

@@ -6,9 +6,9 @@ use Prim.Native.Nat.{ℕ, _≤_, min}
 use native.Mathlib.Omega.{arith}
 use lib.ListN.{take}
 use Rattle.bits.specs.Words.{words10}
-use Rattle.raster.specs.Table.{meant, rasterOk}
+use Rattle.raster.specs.Table.{meant, rasterOk, totalOf}
 use Rattle.raster.proofs.Table.{meant-ok, lookedUp-range}
-use Rattle.stepper.specs.Step.{run, totalOf}
+use Rattle.stepper.specs.Step.{run}
 use Rattle.session.specs.declared.Session.{Session}
 use Rattle.session.specs.declared.Fed.{Fed}
 use Rattle.session.specs.Session.{startState, fedRun, fed, fedY, fedC}

@@ -8,8 +8,7 @@ use lib.ListN.{length}
 use borrow.Author.Tests.{leb-true}
 use Rattle.bits.specs.Choice.{if}
 use Rattle.bits.specs.Words.{words10}
-use Rattle.raster.specs.Table.{rasterOk}
-use Rattle.stepper.specs.Step.{totalOf}
+use Rattle.raster.specs.Table.{rasterOk, totalOf}
 use Rattle.session.specs.declared.Session.{Session}
 use Rattle.session.specs.declared.Fed.{Fed}
 use Rattle.session.specs.Session.{closed, inRange, beginRefusal, begun, feedRefusal, fed, fedY, fedC, endRefusal, ended}

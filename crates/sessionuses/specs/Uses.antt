@@ -2,11 +2,11 @@
 use mathlib.Core.List.{List}
 use Prim.Native.Nat.{ℕ, _≤_, min}
 use lib.ListN.{length, take}
-use Rattle.raster.specs.Table.{meant}
+use Rattle.raster.specs.Table.{meant, totalOf}
 use Rattle.module.specs.Module.{afterBits, bitsOf}
 use Rattle.tally.specs.declared.Verdict.the-variants.{Refused, NoSignal}
 use Rattle.tally.specs.Tally.{noCounts}
-use Rattle.stepper.specs.Step.{Run, totalOf}
+use Rattle.stepper.specs.Step.{Run}
 use Rattle.session.specs.declared.Session.{Session}
 use Rattle.session.specs.declared.Ended.{Ended}
 use Rattle.session.specs.Session.{closed}

@@ -1,6 +1,6 @@
 // Demand 1: "Each call does its work or returns one number of the refusal table, and a refused call changes nothing that it was lent."
+use crate::modules::TwoEnded;
 use session::Begun;
-use session::Ended;
 use session::Fed;
 use session::Session;
 ghost use mathlib.Core.Path.{_≡_};
@@ -13,11 +13,6 @@ ghost use Rattle.sessionuses.specs.Uses.{Fits, notEnded};
 pub struct TwoBegun {
     pub first: Begun,
     pub second: Begun,
-}
-
-pub struct EndedTwice {
-    pub first: Ended,
-    pub second: Ended,
 }
 
 pub struct BegunAndFed {
@@ -44,12 +39,12 @@ pub fn begin_twice(first: u32, second: u32) -> TwoBegun
 }
 
 // "7: .. end when not" open: whatever the session, no module ends twice.
-pub fn end_twice(session: Session) -> EndedTwice
+pub fn end_twice(session: Session) -> TwoEnded
     ensures { λ r. ⌜ r .second ≡ notEnded (r .first .session) ⌝ }
 {
     let first = session.end();
     let second = first.session.end();
-    EndedTwice { first, second }
+    TwoEnded { first, second }
 }
 
 // "word 3FF passes, 400 gives 3".

@@ -2,7 +2,6 @@
 use mathlib.Core.Bool.{Bool}
 use mathlib.Core.List.{List, [], _∷_, _++_}
 use Prim.Native.Nat.{ℕ}
-use Rattle.raster.specs.Table.{lookedUp}
 use Rattle.parts.specs.Parts.{part}
 use Rattle.recogniser.specs.declared.Event.{Event}
 use Rattle.recogniser.specs.declared.Looked.{Looked}
@@ -22,10 +21,6 @@ pub record Run : Type 0 where
 
 abbrev pub run : State → List ℕ → List ℕ → Run
 run s y c = record { state = s; y = y; c = c }
-
--- T of a raster
-abbrev pub totalOf : ℕ → ℕ
-totalOf code = lookedUp code .raster .layout .total
 
 -- how events write a channel's row: event, T, the place and the word of the pair that ended, the row
 abbrev pub Laying : Type 0

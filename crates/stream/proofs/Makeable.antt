@@ -10,7 +10,8 @@ use Rattle.crc.specs.Crc.{crcWords, registerOk}
 use Rattle.crc.proofs.Range.{crcWords-range}
 use Rattle.crc.proofs.Words.{crWords-done, cr-not-reserved}
 use Rattle.plan.specs.declared.Plan.{Plan}
-use Rattle.plan.proofs.Plans.{Fits, Plain}
+use Rattle.plan.specs.Fits.{Fits}
+use Rattle.plan.proofs.Plans.{Plain}
 use Rattle.stream.specs.Words.{headWords, checkWords, unmakeable}
 
 module _ (p : Plan) (fits : Fits (p .places)) where

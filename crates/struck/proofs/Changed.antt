@@ -8,7 +8,7 @@ use lib.ListN.{length, take, drop, length-append}
 use lib.Seq.{take-at, take-take}
 use Rattle.bits.specs.Bits.{odd}
 use Rattle.bits.proofs.Choice.{false-not-true}
-use Rattle.raster.specs.Table.{rasterOk, lookedUp}
+use Rattle.raster.specs.Table.{rasterOk, lookedUp, totalOf}
 use Rattle.raster.proofs.Table.{lookedUp-range}
 use Rattle.cable.specs.Bits.{past}
 use Rattle.cable.specs.Words.{startHistory}
@@ -20,7 +20,8 @@ use Rattle.recogniser.specs.Event.{opened}
 use Rattle.judging.specs.declared.Track.{Track}
 use Rattle.judging.specs.declared.Happening.the-variants.{RowJudged}
 use Rattle.judging.specs.Happening.{lineAfter}
-use Rattle.stepper.specs.Step.{traced, totalOf}
+use Rattle.judging.proofs.Lines.{lineAfter-ok}
+use Rattle.stepper.specs.Step.{traced}
 use Rattle.tally.specs.Tally.{isFault}
 use Rattle.stepper.proofs.Stepping.{steps-of-append}
 use Rattle.module.specs.Module.{listed, begunRun, afterBits}
@@ -28,7 +29,7 @@ use Rattle.struck.specs.Struck.{happeningsAfter}
 use Rattle.struck.proofs.Nones.{isDropped, None, none-dropped, no-flags, none-of-parts}
 use Rattle.struck.proofs.NoFault.{seen-stays}
 use Rattle.struck.proofs.Rows.{bitsAt}
-use Rattle.struck.proofs.Second.{rowLine, lineAfter-ok}
+use Rattle.struck.proofs.Second.{rowLine}
 use Rattle.struck.proofs.Lines.{line-right, line-same}
 use Rattle.struck.proofs.Streams.{length-bitsAt, bitsAt-same, cut-stream, before-run}
 use Rattle.struck.proofs.Two.{firstRow, nextRow, stretchStart, stretchSize, opened-seen, both-rows, second-flags}

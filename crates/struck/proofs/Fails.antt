@@ -2,11 +2,10 @@
 use mathlib.Core.Path.{_≡_, sym, ap, _∙_}
 use mathlib.Core.List.{_++_}
 use borrow.Author.Tests.{ne-eqb}
-use Rattle.raster.specs.Table.{meant}
+use Rattle.raster.specs.Table.{meant, totalOf}
 use Rattle.raster.proofs.Table.{meant-ok}
 use Rattle.cable.specs.Words.{startHistory}
 use Rattle.cable.proofs.Words.{unscrambled-words-bits}
-use Rattle.stepper.specs.Step.{totalOf}
 use Rattle.module.specs.Module.{listed, begunRun, afterBits, bitsOf, moduleOf}
 use Rattle.struck.specs.Struck.{StruckFails}
 use Rattle.struck.proofs.NoFault.{faults-none}

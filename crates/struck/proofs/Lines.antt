@@ -8,7 +8,7 @@ use native.Mathlib.Decide.{ℕ-discrete}
 use lib.ListN.{length, take, getD}
 use lib.Seq.{getD-take}
 use Rattle.bits.proofs.Choice.{false-not-true}
-use Rattle.raster.specs.Table.{rasterOk}
+use Rattle.raster.specs.Table.{rasterOk, totalOf}
 use Rattle.raster.specs.Lines.{lineRefusal}
 use Rattle.raster.proofs.Table.{lookedUp-range}
 use Rattle.timing.specs.Line.{lineRead}
@@ -23,7 +23,6 @@ use Rattle.burst.specs.Stretch.{channelWords}
 use Rattle.judging.specs.declared.Track.{Track}
 use Rattle.judging.specs.declared.Happening.the-variants.{RowJudged}
 use Rattle.judging.specs.Happening.{lineOf, completed, happened, happenings}
-use Rattle.stepper.specs.Step.{totalOf}
 use Rattle.struck.proofs.Pairs.{channelWords-take}
 use Rattle.struck.proofs.Rows.{wholeRow}
 use Rattle.struck.proofs.Second.{rowLine}

@@ -1,17 +1,18 @@
 -- Happenings of which a test does not hold: none dropped a row, or none was a fault.
 use mathlib.Core.Path.{_≡_, refl, sym, ap, _∙_}
-use mathlib.Core.Bool.{Bool, true, false, _||_}
+use mathlib.Core.Bool.{Bool, true, false}
 use mathlib.Core.List.{List, [], _∷_, _++_}
 use Prim.Native.Nat.{ℕ}
 use lib.Dec.{eqb}
 use borrow.Author.Tests.{eqb-true, not-false}
-use Rattle.bits.proofs.Choice.{false-not-true}
+use Rattle.bits.proofs.Choice.{or-none}
+use Rattle.raster.specs.Table.{totalOf}
 use Rattle.parts.specs.Parts.{any}
 use Rattle.parts.proofs.Comparing.{any-of-append, any-cons}
 use Rattle.judging.specs.declared.Happening.{Happening}
 use Rattle.judging.specs.declared.Happening.the-variants.{Quiet, RowJudged, Unnumbered, DroppedEarly, DroppedLate, DroppedAstray}
 use Rattle.judging.specs.Happening.{happenings}
-use Rattle.stepper.specs.Step.{steps, traced, totalOf}
+use Rattle.stepper.specs.Step.{steps, traced}
 use Rattle.tally.specs.Tally.{isFault}
 use Rattle.stepper.proofs.Stepping.{steps-of-append}
 use Rattle.module.specs.Module.{listed, begunRun, afterBits}
@@ -31,10 +32,6 @@ isDropped DroppedAstray = true
 -- of no happening of a list does a test hold
 abbrev pub None : (Happening → Bool) → List Happening → Type 0
 None f hs = any f hs ≡ false
-
-or-none : (a b : Bool) → (a || b) ≡ false → (a ≡ false) × (b ≡ false)
-or-none true b e = absurd (false-not-true (sym e))
-or-none false b e = (refl, e)
 
 pub none-of-append : (f : Happening → Bool) (hs gs : List Happening) → None f (hs ++ gs) → None f hs × None f gs
 none-of-append f hs gs n = or-none (any f hs) (any f gs) (sym (any-of-append f hs gs) ∙ n)

@@ -1,18 +1,15 @@
 -- The flags of a row after another: those of the stretch from the first one's active words on.
-use mathlib.Core.Path.{_≡_, refl, sym, ap, _∙_}
+use mathlib.Core.Path.{_≡_, sym, ap, _∙_}
 use mathlib.Core.Bool.{Bool, true, false}
 use mathlib.Core.List.{List, _++_}
-use Prim.Native.Nat.{ℕ, zero, suc, _+_, _-_, _*_, _≤_, _<_}
+use Prim.Native.Nat.{ℕ, _-_, _*_, _≤_}
 use native.Mathlib.Omega.{arith}
-use lib.Dec.{ltb}
 use lib.ListN.{length, take, drop, length-take, length-drop, take-append-drop}
 use lib.Seq.{take-at, drop-at, take-all}
-use borrow.Author.Tests.{ltb-true}
-use Rattle.bits.specs.Choice.{if}
-use Rattle.raster.specs.Table.{rasterOk, entryOf, lookedUp}
+use Rattle.raster.specs.Table.{rasterOk, lookedUp, totalOf}
 use Rattle.raster.specs.Lines.{lineRefusal}
-use Rattle.raster.proofs.Table.{lookedUp-found, lookedUp-range}
-use Rattle.raster.proofs.Lines.{between-yes, lineRefusal-ok, ok-lineRefusal, lineOk-range}
+use Rattle.raster.proofs.Table.{lookedUp-range}
+use Rattle.raster.proofs.Lines.{lineRefusal-ok, lineOk-range}
 use Rattle.crc.specs.Crc.{crcStart, crcWords}
 use Rattle.plan.specs.Plan.{planOf}
 use Rattle.plan.proofs.Plans.{planOf-found}
@@ -23,45 +20,16 @@ use Rattle.burst.specs.Stretch.{channelWords, flagsIn}
 use Rattle.judging.specs.declared.Track.{Track}
 use Rattle.judging.specs.declared.Happening.the-variants.{RowJudged}
 use Rattle.judging.specs.declared.Happened.{Happened}
-use Rattle.judging.specs.Happening.{lineOf, lineAfter, rowJudged, completed, happened}
-use Rattle.stepper.specs.Step.{totalOf}
+use Rattle.judging.specs.Happening.{lineOf, lineAfter, happened}
+use Rattle.judging.proofs.Lines.{lineOf-known, completed-numbered, lineAfter-ok}
 use Rattle.struck.proofs.Pairs.{length-channelWords, channelWords-append}
 use Rattle.struck.proofs.Rows.{wholeRow}
 
 -- ---- lines
 
-lineOf-known : (code n : ℕ) (y : List ℕ) → (n ≡ 0 → ⊥) → lineOf code n y ≡ n
-lineOf-known code zero y h = absurd (h refl)
-lineOf-known code (suc n) y h = refl
-
-completed-known : (code n : ℕ) (carry : Carry) (y c : List ℕ) → (n ≡ 0 → ⊥)
-    → completed code n carry y c ≡ rowJudged code n carry (judged code n carry y c)
-completed-known code zero carry y c h = absurd (h refl)
-completed-known code (suc n) carry y c h = refl
-
 -- the line that a row has, by what is expected and what it says
 abbrev pub rowLine : ℕ → Track → List Bool → ℕ
 rowLine code t row = lineOf code (t .line) (channelWords true row)
-
--- the line after a line of the raster is one too
-pub lineAfter-ok : (code line : ℕ) → lineRefusal code line ≡ 0 → lineRefusal code (lineAfter code line) ≡ 0
-lineAfter-ok code line ok = ok-lineRefusal code (lineAfter code line) raster (between-yes 1 (entryOf code .rows) (lineAfter code line) (range .0) (range .1))
-  where
-    raster : rasterOk code ≡ true
-    raster = lineRefusal-ok code line ok .0
-
-    rows : lookedUp code .raster .rows ≡ entryOf code .rows
-    rows = ap (λ l. l .raster .rows) (lookedUp-found code raster)
-
-    some : 750 ≤ lookedUp code .raster .rows
-    some = lookedUp-range code raster .rows-low
-
-    go : (t : Bool) → (t ≡ true → line < lookedUp code .raster .rows) → (1 ≤ if t (line + 1) 1) × (if t (line + 1) 1 ≤ entryOf code .rows)
-    go true below = let l = below refl in (omega arith, omega (arith, rows))
-    go false below = (omega arith, omega (arith, rows, some))
-
-    range : (1 ≤ lineAfter code line) × (lineAfter code line ≤ entryOf code .rows)
-    range = go (ltb line (lookedUp code .raster .rows)) (ltb-true line (lookedUp code .raster .rows))
 
 line-some : (code line : ℕ) → lineRefusal code line ≡ 0 → line ≡ 0 → ⊥
 line-some code line ok z =
@@ -130,7 +98,7 @@ module _ (code : ℕ) (raster : rasterOk code ≡ true) (one two : List Bool) (s
     unfolding happened judged
     track-one =
         ap (λ (g : Happened). g .track)
-        (completed-known code (rowLine code t one) (t .carry) (channelWords true one) (channelWords false one) (line-some code (rowLine code t one) ok))
+        (completed-numbered code (rowLine code t one) (t .carry) (channelWords true one) (channelWords false one) (line-some code (rowLine code t one) ok))
         ∙ rw ok
 
     pub second-row : wholeRow code (wholeRow code t one .track) two .happening
@@ -141,4 +109,4 @@ module _ (code : ℕ) (raster : rasterOk code ≡ true) (one two : List Bool) (s
         let next = lineAfter code line in
         let ok-next = lineAfter-ok code line ok in
         rw
-        (track-one, lineOf-known code next (channelWords true two) (line-some code next ok-next), completed-known code next (carryOne line) (channelWords true two) (channelWords false two) (line-some code next ok-next), ok-next, flags-of-stretch line next ok ok-next)
+        (track-one, lineOf-known code next (channelWords true two) (line-some code next ok-next), completed-numbered code next (carryOne line) (channelWords true two) (channelWords false two) (line-some code next ok-next), ok-next, flags-of-stretch line next ok ok-next)

@@ -5,7 +5,7 @@ use mathlib.Core.List.{List, _++_}
 use Prim.Native.Nat.{ℕ, _+_, _*_, _≤_, _-_}
 use native.Mathlib.Omega.{arith}
 use lib.ListN.{length, take, drop, length-append, length-take, length-drop}
-use Rattle.raster.specs.Table.{lookedUp}
+use Rattle.raster.specs.Table.{lookedUp, totalOf}
 use Rattle.raster.specs.Lines.{lineRefusal}
 use Rattle.cable.specs.Bits.{unscrambled, past}
 use Rattle.cable.specs.Words.{startHistory}
@@ -13,7 +13,6 @@ use Rattle.plan.specs.Plan.{planOf}
 use Rattle.plan.proofs.Plans.{planOf-found}
 use Rattle.burst.specs.Stretch.{received, flagsIn, crcFlagged, BurstFlagged}
 use Rattle.burst.proofs.Flagged.{burst-flagged}
-use Rattle.stepper.specs.Step.{totalOf}
 use Rattle.struck.proofs.Rows.{bitsAt}
 use Rattle.struck.proofs.Streams.{received-run}
 use Rattle.struck.proofs.Two.{stretchStart, stretchSize}

@@ -5,7 +5,7 @@ use mathlib.Core.List.{List, [], _∷_, _++_, append-assoc}
 use Prim.Native.Nat.{ℕ, _+_, _-_, _*_, _≤_}
 use native.Mathlib.Omega.{arith}
 use lib.ListN.{length, drop, length-append}
-use Rattle.raster.specs.Table.{rasterOk, lookedUp}
+use Rattle.raster.specs.Table.{rasterOk, lookedUp, totalOf}
 use Rattle.raster.specs.Lines.{lineRefusal}
 use Rattle.raster.proofs.Table.{lookedUp-range}
 use Rattle.plan.specs.Plan.{planOf}
@@ -15,7 +15,7 @@ use Rattle.recogniser.specs.Event.{opened}
 use Rattle.judging.specs.declared.Track.{Track}
 use Rattle.judging.specs.declared.Happening.the-variants.{RowJudged}
 use Rattle.judging.specs.Happening.{lineAfter, happenings}
-use Rattle.stepper.specs.Step.{Run, totalOf}
+use Rattle.stepper.specs.Step.{Run}
 use Rattle.stepper.proofs.Stepping.{steps-of-append}
 use Rattle.module.specs.Module.{listed, begunRun, afterBits}
 use Rattle.struck.specs.Struck.{happeningsAfter}

@@ -1,17 +1,18 @@
--- Demand 3 (README), at the verdict: the changed stream fails, be it by a check code, or because the change broke a timing code, made one, or moved the alignment.
+-- Demand 3 (README), at the verdict: the changed stream fails, be it by a check code, or because the change broke a timing
+-- code, made one, or moved the alignment.
 use mathlib.Core.Path.{_≡_}
 use mathlib.Core.Bool.{Bool, true, false}
 use mathlib.Core.List.{List, [], _∷_, _++_}
 use Prim.Native.Nat.{ℕ, _+_, _-_, _*_, _≤_}
 use lib.ListN.{length}
 use Rattle.bits.specs.Bits.{wordBits}
-use Rattle.raster.specs.Table.{meant, rasterOk, lookedUp}
+use Rattle.raster.specs.Table.{meant, rasterOk, lookedUp, totalOf}
 use Rattle.recogniser.specs.Event.{opened}
 use Rattle.judging.specs.declared.Happening.{Happening}
 use Rattle.judging.specs.declared.Happening.the-variants.{RowJudged}
 use Rattle.burst.specs.Stretch.{crcFlagged}
 use Rattle.tally.specs.declared.Verdict.the-variants.{Fail}
-use Rattle.stepper.specs.Step.{totalOf, traced}
+use Rattle.stepper.specs.Step.{traced}
 use Rattle.module.specs.Module.{listed, afterBits, bitsOf, moduleOf}
 
 -- what happens over bits that follow others
@@ -34,8 +35,9 @@ pub record TwoRows (code : ℕ) (ws : List ℕ) (before one two after : List Boo
   pub judged-two : happeningsAfter code (before ++ one) two ≡ RowJudged line-two flags-two true ∷ []
   pub right : crcFlagged flags-two ≡ false
 
--- "change one or more bits inside a run of at most eighteen cable bits, the run and the ten bits after it inside the stretch", from row k's first active word to row
--- k+1's second line number word: m becomes n. Row k starts 80 bits before it opens.
+-- "change one or more bits inside a run of at most eighteen cable bits, the run and the ten bits after it inside the
+-- stretch", from row k's first active word to row k+1's second line number word: m becomes n.
+-- Row k starts 80 bits before it opens.
 unfoldable pub StruckFails : Type 0
 StruckFails =
     (code : ℕ) (ws vs : List ℕ) (before one two after a m n z : List Bool)

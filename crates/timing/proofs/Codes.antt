@@ -8,7 +8,7 @@ use lib.Bits.{bitAnd}
 use lib.Count.{ones}
 use lib.Dec.{T, leb, eqb, eqb→eq}
 use mir.Val.{boolByte}
-use borrow.Author.Tests.{lt-leb, leb-false, eqb-true}
+use borrow.Author.Tests.{eqb-true}
 use Rattle.bits.specs.Choice.{if}
 use Rattle.bits.specs.Bits.{_⊕_, odd, bits, number, xors, count, parity}
 use Rattle.bits.specs.Words.{reservedCode}
@@ -57,17 +57,6 @@ xyz-build-of-read w f v h e = go (leb w 0x3ff) (exactXyz w) (eqb-true w (xyzOf (
     go true true k q = let r : w ≡ xyzOf (fBit w) (vBit w) (hBit w) = k refl in cc
     go true false k q = cc
     go false b k q = cc
-
--- a word is refused exactly where it is above 3FF
-pub xyz-refused : (w : ℕ) → (0x3ff < w → readXyz w ≡ Refused) × (readXyz w ≡ Refused → 0x3ff < w)
-unfolding readXyz
-xyz-refused w = (λ h. rw (lt-leb w 0x3ff h), go (leb w 0x3ff) (exactXyz w) (leb-false w 0x3ff))
-  where
-    go : (a b : Bool) → (a ≡ false → 0x3ff < w)
-        → if a (if b (Exact (fBit w) (vBit w) (hBit w)) Inexact) Refused ≡ Refused → 0x3ff < w
-    go true true k q = absurd (let z : _≡_ {A = ℕ} 0 1 = cc in omega arith)
-    go true false k q = absurd (let z : _≡_ {A = ℕ} 0 1 = cc in omega arith)
-    go false b k q = k refl
 
 -- what is told of the reading is what is told of the word
 xyz-told : (w : ℕ) → told (readXyz w) ≡ readingOf w

@@ -9,7 +9,7 @@ use borrow.Author.Tests.{le-leb, eq-eqb, eqb-true}
 use Rattle.bits.specs.Choice.{if}
 use Rattle.bits.specs.Words.{reservedCode}
 use Rattle.bits.proofs.Words.{nine-range, nine-low, nine-not-reserved}
-use Rattle.raster.specs.Table.{rasterOk, entryOf}
+use Rattle.raster.specs.Table.{rasterOk}
 use Rattle.raster.specs.Lines.{lineOk, lineRefusal}
 use Rattle.raster.proofs.Lines.{lineOk-range, lineRefusal-ok}
 use Rattle.timing.specs.declared.LineWords.{LineWords}
@@ -148,17 +148,3 @@ pub line-build-of-read : (code ln0 ln1 l : ℕ) → lineRead code ln0 ln1 ≡ re
 line-build-of-read code ln0 ln1 l e some =
     ⊎-elim (λ z. absurd (some z)) (λ n. (n .3, n .4, n .2))
     (rw e at (line-read-cases code ln0 ln1))
-
--- words that are built for no line of the raster are answered with 0
-pub line-read-other : (code ln0 ln1 : ℕ) → ((l : ℕ) → lineOk code l ≡ true → ln0 ≡ ln0Of l → ln1 ≡ ln1Of l → ⊥)
-    → lineRead code ln0 ln1 .line ≡ 0
-line-read-other code ln0 ln1 none =
-    ⊎-elim (λ z. z) (λ n. absurd (none (lineRead code ln0 ln1 .line) (n .2) (n .3) (n .4))) (line-read-cases code ln0 ln1)
-
-pub line-read-most : (code ln0 ln1 : ℕ) → lineRead code ln0 ln1 .line ≤ entryOf code .rows
-line-read-most code ln0 ln1 =
-    ⊎-elim (λ z. omega arith) (λ n. lineOk-range code (lineRead code ln0 ln1 .line) (n .1) (n .2) .1) (line-read-cases code ln0 ln1)
-
--- a refused reading answers no line
-pub line-read-refused : (code ln0 ln1 : ℕ) → (lineRead code ln0 ln1 .refusal ≡ 0 → ⊥) → lineRead code ln0 ln1 .line ≡ 0
-line-read-refused code ln0 ln1 bad = ⊎-elim (λ z. z) (λ n. absurd (bad (n .0))) (line-read-cases code ln0 ln1)

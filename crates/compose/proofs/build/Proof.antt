@@ -3,10 +3,10 @@ use Prim.Native.Nat.{_≤_}
 use lib.ListN.{length}
 use borrow.Author.Needs.{needs}
 use Rattle.plan.specs.declared.Plan.{Plan}
+use Rattle.plan.specs.Fits.{Fits}
 use Rattle.plan.proofs.Plans.{planOf-refusal, plan-found}
 use Rattle.compose.specs.Compose.{buildRefusal}
-use Rattle.compose.specs.Placed.{Placed}
-use Rattle.compose.proofs.Refusal.{buildRefusal-line, buildRefusal-under, buildRefusal-placed, refused-nothing}
+use Rattle.compose.proofs.Refusal.{buildRefusal-line, buildRefusal-under, buildRefusal-fits, refused-nothing}
 use Rattle.compose.proofs.build.Statement.{statement}
 use Rattle.compose.proofs.build.Tie as tie
 
@@ -25,10 +25,10 @@ under c =
 placed : (c : tie.Else2)
     → let at = c .before .before .before .before .before .before .before .before .before .before .before .args in
     let places = c .before .before .before .before .plan-of .result .places in
-    Placed places × (length (at .ylaid .now) ≤ places .blanks) × (length (at .claid .now) ≤ places .blanks)
+    Fits places × (length (at .ylaid .now) ≤ places .blanks) × (length (at .claid .now) ≤ places .blanks)
 placed c =
     let plan = c .before .before .before .before .plan-of in
-    buildRefusal-placed _ _ _ _ _ _ _ _ _ (plan .result) (plan .ensures) (under (c .before) ∙ c .if2 .left)
+    buildRefusal-fits _ _ _ _ _ _ _ _ _ (plan .result) (plan .ensures) (under (c .before) ∙ c .if2 .left)
 
 plan-of-requires : tie.Need-plan-of-requires
 plan-of-requires c κs = search needs

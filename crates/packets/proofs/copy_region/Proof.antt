@@ -6,8 +6,9 @@ use native.Mathlib.Nat.{add-zero}
 use lib.ListN.{length, drop}
 use borrow.Author.Needs.{needs}
 use Rattle.parts.specs.Parts.{laid}
+use Rattle.scan.specs.declared.Here.{Here}
 use Rattle.scan.specs.Scan.{packetsOf, scan}
-use Rattle.scan.proofs.Pieces.{scan-turn, scan-end}
+use Rattle.scan.proofs.Pieces.{Turn, scan-turn, scan-end}
 use Rattle.packets.proofs.Extracting.{length-packets-whole, laid-packets-whole}
 use Rattle.packets.proofs.copy_region.Statement.{statement}
 use Rattle.packets.proofs.copy_region.Tie as tie
@@ -20,6 +21,11 @@ Inv-scan region out₀ from at₀ i₀ out at i =
 
 abbrev μ-scan : tie.MeasureT-scan
 μ-scan region out₀ from at₀ i₀ out at i = length region - i
+
+-- what stands at the place of a turn, by the answer of here_at
+turn : (c : tie.After-here-at Inv-scan μ-scan) {here : Here} → c .here-at .result ≡ here
+    → Turn (c .before .before .before .before .before .args .region .now) (c .before .before .scan .i) here
+turn c {here} e = scan-turn _ _ here (c .before .scan-test .taken) (sym (c .here-at .ensures) ∙ e)
 
 scan-holds : tie.Need-scan-holds Inv-scan μ-scan
 scan-holds c = (refl, refl, refl)
@@ -40,14 +46,14 @@ scan-again : tie.Need-scan-again Inv-scan μ-scan
 unfolding packetsOf flatMap
 scan-again c =
     let inv = c .before .before .before .before .scan .inv in
-    let turn = scan-turn _ _ _ (c .before .before .before .scan-test .taken) (sym (c .before .before .here-at .ensures) ∙ c .enum-told .given .1) in
-    (inv .0, inv .1 ∙ rw (turn .next), inv .2 ∙ rw (turn .next))
+    let here = turn (c .before .before) (c .enum-told .given .1) in
+    (inv .0, inv .1 ∙ rw (here .next), inv .2 ∙ rw (here .next))
 
 enum-told-2 : tie.Need-enum-told-2 Inv-scan μ-scan
 enum-told-2 c = search needs
 
 add-i-2 : tie.Need-add-i-2 Inv-scan μ-scan
-add-i-2 c = omega (arith, scan-turn _ _ _ (c .before .before .before .scan-test .taken) (sym (c .before .before .here-at .ensures) ∙ c .enum-told2 .given .1))
+add-i-2 c = omega (arith, turn (c .before .before) (c .enum-told2 .given .1))
 
 scan-less-2 : tie.Need-scan-less-2 Inv-scan μ-scan
 scan-less-2 c = omega arith
@@ -56,8 +62,8 @@ scan-again-2 : tie.Need-scan-again-2 Inv-scan μ-scan
 unfolding packetsOf flatMap
 scan-again-2 c =
     let inv = c .before .before .before .before .scan .inv in
-    let turn = scan-turn _ _ _ (c .before .before .before .scan-test .taken) (sym (c .before .before .here-at .ensures) ∙ c .enum-told2 .given .1) in
-    (inv .0, inv .1 ∙ rw (turn .next), inv .2 ∙ rw (turn .next))
+    let here = turn (c .before .before) (c .enum-told2 .given .1) in
+    (inv .0, inv .1 ∙ rw (here .next), inv .2 ∙ rw (here .next))
 
 enum-known-here : tie.Need-enum-known-here Inv-scan μ-scan
 enum-known-here c = search needs
@@ -71,27 +77,27 @@ lay-requires c κs = search needs
 add-at : tie.Need-add-at Inv-scan μ-scan
 add-at c =
     let this = c .before .before .before .before .before .before in
-    let turn = scan-turn _ _ _ (this .before .before .before .scan-test .taken) (sym (this .before .before .here-at .ensures) ∙ this .here .given .1) in
-    omega (arith, length-packets-whole _ _ _ turn, this .before .before .before .before .scan .inv .1, this .before .before .before .before .before .before .before .pre)
+    let here = turn (this .before .before) (this .here .given .1) in
+    omega (arith, length-packets-whole _ _ _ here, this .before .before .before .before .scan .inv .1, this .before .before .before .before .before .before .before .pre)
 
 add-i-3 : tie.Need-add-i-3 Inv-scan μ-scan
 add-i-3 c =
     let this = c .before .before .before .before .before .before in
-    omega (arith, scan-turn _ _ _ (this .before .before .before .scan-test .taken) (sym (this .before .before .here-at .ensures) ∙ this .here .given .1))
+    omega (arith, turn (this .before .before) (this .here .given .1))
 
 scan-less-3 : tie.Need-scan-less-3 Inv-scan μ-scan
 scan-less-3 c =
     let this = c .before .before .before .before .before .before in
-    omega (arith, scan-turn _ _ _ (this .before .before .before .scan-test .taken) (sym (this .before .before .here-at .ensures) ∙ this .here .given .1))
+    omega (arith, turn (this .before .before) (this .here .given .1))
 
 scan-again-3 : tie.Need-scan-again-3 Inv-scan μ-scan
 scan-again-3 c =
     let this = c .before .before .before .before .before .before in
     let inv = this .before .before .before .before .scan .inv in
-    let turn = scan-turn _ _ _ (this .before .before .before .scan-test .taken) (sym (this .before .before .here-at .ensures) ∙ this .here .given .1) in (
+    let here = turn (this .before .before) (this .here .given .1) in (
       c .before .before .lay .kept .0 ∙ inv .0,
-      omega (arith, length-packets-whole _ _ _ turn, inv .1),
-      inv .2 ∙ laid-packets-whole _ _ _ turn _ _ ∙ rw (c .before .before .lay .ensures, c .before .before .before .part .ensures),
+      omega (arith, length-packets-whole _ _ _ here, inv .1),
+      inv .2 ∙ laid-packets-whole _ _ _ here _ _ ∙ rw (c .before .before .lay .ensures, c .before .before .before .part .ensures),
     )
 
 same-length : tie.Need-same-length Inv-scan μ-scan

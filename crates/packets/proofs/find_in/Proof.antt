@@ -5,8 +5,9 @@ use native.Mathlib.Omega.{arith}
 use lib.ListN.{length, drop}
 use borrow.Author.Needs.{needs}
 use Rattle.parts.proofs.Inside.{length-part}
+use Rattle.scan.specs.declared.Here.{Here}
 use Rattle.scan.specs.Scan.{Packet, scan}
-use Rattle.scan.proofs.Pieces.{scan-turn, scan-end}
+use Rattle.scan.proofs.Pieces.{Turn, scan-turn, scan-end}
 use Rattle.packets.specs.Find.{wanted, found}
 use Rattle.packets.proofs.find_in.Statement.{statement}
 use Rattle.packets.proofs.find_in.Tie as tie
@@ -16,6 +17,11 @@ Inv-scan region did sdid i₀ i = found did sdid (scan region) ≡ found did sdi
 
 abbrev μ-scan : tie.MeasureT-scan
 μ-scan region did sdid i₀ i = length region - i
+
+-- what stands at the place of a turn, by the answer of here_at
+turn : (c : tie.After-here-at Inv-scan μ-scan) {here : Here} → c .here-at .result ≡ here
+    → Turn (c .before .before .before .before .args .region .now) (c .before .before .scan .i) here
+turn c {here} e = scan-turn _ _ here (c .before .scan-test .taken) (sym (c .here-at .ensures) ∙ e)
 
 scan-holds : tie.Need-scan-holds Inv-scan μ-scan
 scan-holds c = refl
@@ -35,14 +41,14 @@ scan-less c = omega arith
 scan-again : tie.Need-scan-again Inv-scan μ-scan
 unfolding found
 scan-again c =
-    let turn = scan-turn _ _ _ (c .before .before .before .scan-test .taken) (sym (c .before .before .here-at .ensures) ∙ c .enum-told .given .1) in
-    c .before .before .before .before .scan .inv ∙ rw (turn .next)
+    let here = turn (c .before .before) (c .enum-told .given .1) in
+    c .before .before .before .before .scan .inv ∙ rw (here .next)
 
 enum-told-2 : tie.Need-enum-told-2 Inv-scan μ-scan
 enum-told-2 c = search needs
 
 add-i-2 : tie.Need-add-i-2 Inv-scan μ-scan
-add-i-2 c = omega (arith, scan-turn _ _ _ (c .before .before .before .scan-test .taken) (sym (c .before .before .here-at .ensures) ∙ c .enum-told2 .given .1))
+add-i-2 c = omega (arith, turn (c .before .before) (c .enum-told2 .given .1))
 
 scan-less-2 : tie.Need-scan-less-2 Inv-scan μ-scan
 scan-less-2 c = omega arith
@@ -50,8 +56,8 @@ scan-less-2 c = omega arith
 scan-again-2 : tie.Need-scan-again-2 Inv-scan μ-scan
 unfolding found
 scan-again-2 c =
-    let turn = scan-turn _ _ _ (c .before .before .before .scan-test .taken) (sym (c .before .before .here-at .ensures) ∙ c .enum-told2 .given .1) in
-    c .before .before .before .before .scan .inv ∙ rw (turn .next)
+    let here = turn (c .before .before) (c .enum-told2 .given .1) in
+    c .before .before .before .before .scan .inv ∙ rw (here .next)
 
 enum-known-here : tie.Need-enum-known-here Inv-scan μ-scan
 enum-known-here c = search needs
@@ -61,30 +67,35 @@ part-requires c κs = search needs
 
 is-wanted-requires : tie.Need-is-wanted-requires Inv-scan μ-scan
 is-wanted-requires c κs =
-    let turn = scan-turn _ _ _ (c .before .before .before .before .before .scan-test .taken) (sym (c .before .before .before .before .here-at .ensures) ∙ c .before .before .here .given .1) in
-    rw (c .part .ensures, length-part _ _ _ (turn .room)) (turn .least)
+    let this = c .before .before in
+    let here = turn (this .before .before) (this .here .given .1) in
+    rw (c .part .ensures, length-part _ _ _ (here .room)) (here .least)
 
 returns : tie.Need-returns Inv-scan μ-scan
 unfolding found
 returns c =
     let this = c .before .before in
-    let turn = scan-turn _ _ _ (this .before .before .before .before .before .scan-test .taken) (sym (this .before .before .before .before .here-at .ensures) ∙ this .before .before .here .given .1) in
+    let here = turn (this .before .before .before .before) (this .before .before .here .given .1) in
     let right : wanted _ _ (Packet (this .part .result .now)) ≡ true = sym (c .before .is-wanted .ensures) ∙ c .if1 .taken in
-    this .part .ensures ∙ sym (this .before .before .before .before .before .before .scan .inv ∙ rw (turn .next, rw (this .part .ensures) at right))
+    this .part .ensures ∙ sym (this .before .before .before .before .before .before .scan .inv ∙ rw (here .next, rw (this .part .ensures) at right))
 
 add-i-3 : tie.Need-add-i-3 Inv-scan μ-scan
-add-i-3 c = omega (arith, scan-turn _ _ _ (c .before .before .before .before .before .before .before .scan-test .taken) (sym (c .before .before .before .before .before .before .here-at .ensures) ∙ c .before .before .before .before .here .given .1))
+add-i-3 c =
+    let this = c .before .before .before .before in
+    omega (arith, turn (this .before .before) (this .here .given .1))
 
 scan-less-3 : tie.Need-scan-less-3 Inv-scan μ-scan
-scan-less-3 c = omega (arith, scan-turn _ _ _ (c .before .before .before .before .before .before .before .scan-test .taken) (sym (c .before .before .before .before .before .before .here-at .ensures) ∙ c .before .before .before .before .here .given .1))
+scan-less-3 c =
+    let this = c .before .before .before .before in
+    omega (arith, turn (this .before .before) (this .here .given .1))
 
 scan-again-3 : tie.Need-scan-again-3 Inv-scan μ-scan
 unfolding found
 scan-again-3 c =
     let this = c .before .before in
-    let turn = scan-turn _ _ _ (this .before .before .before .before .before .scan-test .taken) (sym (this .before .before .before .before .here-at .ensures) ∙ this .before .before .here .given .1) in
+    let here = turn (this .before .before .before .before) (this .before .before .here .given .1) in
     let other : wanted _ _ (Packet (this .part .result .now)) ≡ false = sym (c .before .is-wanted .ensures) ∙ c .if1 .left in
-    this .before .before .before .before .before .before .scan .inv ∙ rw (turn .next, rw (this .part .ensures) at other)
+    this .before .before .before .before .before .before .scan .inv ∙ rw (here .next, rw (this .part .ensures) at other)
 
 sub-result : tie.Need-sub-result Inv-scan μ-scan
 sub-result c = search needs

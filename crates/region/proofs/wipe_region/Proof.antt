@@ -2,8 +2,9 @@ use mathlib.Core.Path.{_≡_, refl, sym, _∙_}
 use Prim.Native.Nat.{_-_}
 use native.Mathlib.Omega.{arith}
 use lib.ListN.{length}
+use Rattle.scan.specs.declared.Here.{Here}
 use Rattle.scan.specs.Scan.{Word, Marker}
-use Rattle.scan.proofs.Pieces.{scan-turn}
+use Rattle.scan.proofs.Pieces.{Turn, scan-turn}
 use Rattle.region.specs.Region.{wipePiece, wiped}
 use Rattle.region.proofs.Pieces.{todo, todo-end, todo-kept, todo-wiped}
 use borrow.Author.Needs.{needs}
@@ -15,6 +16,11 @@ Inv-scan region₀ blank i₀ region i = (length region ≡ length region₀) ×
 
 abbrev μ-scan : tie.MeasureT-scan
 μ-scan region₀ blank i₀ region i = length region₀ - i
+
+-- what stands at the place of a turn, by the answer of here_at
+turn : (c : tie.After-here-at Inv-scan μ-scan) {here : Here} → c .here-at .result ≡ here
+    → Turn (c .before .before .before .scan .region) (c .before .before .before .scan .i) here
+turn c {here} e = scan-turn _ _ here (c .before .before .scan-test .taken) (sym (c .here-at .ensures) ∙ e)
 
 scan-holds : tie.Need-scan-holds Inv-scan μ-scan
 unfolding wiped
@@ -35,14 +41,14 @@ scan-less c = omega arith
 scan-again : tie.Need-scan-again Inv-scan μ-scan
 scan-again c =
     let at = c .before .before .before .before .before .scan in
-    let turn = scan-turn _ _ _ (c .before .before .before .before .scan-test .taken) (sym (c .before .before .here-at .ensures) ∙ c .enum-told .given .1) in
-    (at .inv .0, at .inv .1 ∙ todo-kept (wipePiece _) (at .region) (at .i) 1 (Word _) (turn .next) refl refl)
+    let here = turn (c .before .before) (c .enum-told .given .1) in
+    (at .inv .0, at .inv .1 ∙ todo-kept (wipePiece _) (at .region) (at .i) 1 (Word _) (here .next) refl refl)
 
 enum-told-2 : tie.Need-enum-told-2 Inv-scan μ-scan
 enum-told-2 c = search needs
 
 add-i-2 : tie.Need-add-i-2 Inv-scan μ-scan
-add-i-2 c = omega (arith, scan-turn _ _ _ (c .before .before .before .before .scan-test .taken) (sym (c .before .before .here-at .ensures) ∙ c .enum-told2 .given .1))
+add-i-2 c = omega (arith, turn (c .before .before) (c .enum-told2 .given .1))
 
 scan-less-2 : tie.Need-scan-less-2 Inv-scan μ-scan
 scan-less-2 c = omega arith
@@ -50,8 +56,8 @@ scan-less-2 c = omega arith
 scan-again-2 : tie.Need-scan-again-2 Inv-scan μ-scan
 scan-again-2 c =
     let at = c .before .before .before .before .before .scan in
-    let turn = scan-turn _ _ _ (c .before .before .before .before .scan-test .taken) (sym (c .before .before .here-at .ensures) ∙ c .enum-told2 .given .1) in
-    (at .inv .0, at .inv .1 ∙ todo-kept (wipePiece _) (at .region) (at .i) 3 Marker (turn .next) refl refl)
+    let here = turn (c .before .before) (c .enum-told2 .given .1) in
+    (at .inv .0, at .inv .1 ∙ todo-kept (wipePiece _) (at .region) (at .i) 3 Marker (here .next) refl refl)
 
 enum-known-here : tie.Need-enum-known-here Inv-scan μ-scan
 enum-known-here c = search needs
@@ -60,16 +66,21 @@ fill-requires : tie.Need-fill-requires Inv-scan μ-scan
 fill-requires c κs = search needs
 
 add-i-3 : tie.Need-add-i-3 Inv-scan μ-scan
-add-i-3 c = omega (arith, scan-turn _ _ _ (c .before .before .before .before .before .before .before .before .before .scan-test .taken) (sym (c .before .before .before .before .before .before .before .here-at .ensures) ∙ c .before .before .before .before .before .here .given .1))
+add-i-3 c =
+    let this = c .before .before .before .before .before in
+    omega (arith, turn (this .before .before) (this .here .given .1))
 
 scan-less-3 : tie.Need-scan-less-3 Inv-scan μ-scan
-scan-less-3 c = omega (arith, scan-turn _ _ _ (c .before .before .before .before .before .before .before .before .before .scan-test .taken) (sym (c .before .before .before .before .before .before .before .here-at .ensures) ∙ c .before .before .before .before .before .here .given .1))
+scan-less-3 c =
+    let this = c .before .before .before .before .before in
+    omega (arith, turn (this .before .before) (this .here .given .1))
 
 scan-again-3 : tie.Need-scan-again-3 Inv-scan μ-scan
 scan-again-3 c =
     let at = c .before .before .before .before .before .before .before .before .before .before .scan in
-    let turn = scan-turn _ _ _ (c .before .before .before .before .before .before .before .before .before .scan-test .taken) (sym (c .before .before .before .before .before .before .before .here-at .ensures) ∙ c .before .before .before .before .before .here .given .1) in
-    (c .before .before .fill .kept .0 ∙ at .inv .0, at .inv .1 ∙ todo-wiped _ _ _ turn _ ∙ rw (c .before .before .fill .ensures))
+    let this = c .before .before .before .before .before in
+    let here = turn (this .before .before) (this .here .given .1) in
+    (c .before .before .fill .kept .0 ∙ at .inv .0, at .inv .1 ∙ todo-wiped _ _ _ here _ ∙ rw (c .before .before .fill .ensures))
 
 same-length : tie.Need-same-length Inv-scan μ-scan
 same-length c = c .before .scan .inv .0

@@ -1,6 +1,6 @@
 -- take_refusal: 7 before 1; the two ways past the first test meet.
 use mathlib.Core.Path.{_≡_, sym, _∙_}
-use mathlib.Core.Bool.{true}
+use mathlib.Core.Bool.{true, and-false}
 use mathlib.Core.Logic.{⊎-elim}
 use native.Mathlib.Omega.{arith}
 use lib.Dec.{leb, eqb}
@@ -8,7 +8,6 @@ use lib.ListN.{length}
 use borrow.Author.Tests.{le-leb, lt-leb, eq-eqb, ne-eqb}
 use borrow.Author.Needs.{needs}
 use Rattle.bits.specs.Choice.{if}
-use Rattle.bits.proofs.Choice.{and-false}
 use Rattle.session.specs.Session.{endRefusal}
 use Rattle.jobs.specs.Desk.{wordsAt, takeRefusal}
 use Rattle.jobs.proofs.Taking.{ended-refusal}

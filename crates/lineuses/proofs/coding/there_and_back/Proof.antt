@@ -1,6 +1,7 @@
 use mathlib.Core.Path.{refl, ap, _∙_}
 use borrow.Author.Needs.{needs}
-use Rattle.lineuses.proofs.Trips.{coded-number, scramble-kept, there-and-back, unscramble-kept}
+use Rattle.cable.specs.Words.{scrambleNext, scrambleWords, unscrambleNext, unscrambleWords}
+use Rattle.lineuses.proofs.Trips.{coded-number, filled-kept, there-and-back}
 use Rattle.lineuses.proofs.coding.there_and_back.Statement.{statement}
 use Rattle.lineuses.proofs.coding.there_and_back.Tie as tie
 
@@ -16,7 +17,7 @@ returns c =
     let there = call .scramble .ensures in
     let at = call .before .before .before .before .before .args in (
       ap (λ r. r .refusal) (there .0) ∙ coded-number _ _,
-      (λ z _. absurd (c .if1 .taken z), (λ bad. (scramble-kept (at .history) (at .words .now) (at .cable .now) (there .0) (there .1) bad, refl), λ _. refl)),
+      (λ z _. absurd (c .if1 .taken z), (λ bad. (filled-kept scrambleNext scrambleWords (at .history) (at .words .now) (at .cable .now) (there .0) (there .1) bad, refl), λ _. refl)),
     )
 
 part-requires : tie.Need-part-requires
@@ -42,7 +43,7 @@ returns-2 c =
       ap (λ r. r .refusal) (there .0) ∙ coded-number _ _,
       (
         there-and-back (at .history) (at .words .now) (at .cable .now) (at .back .now) _ (there .0) (there .1) part (back .0) (back .1),
-        (λ bad. absurd (bad (test .if1 .left)), unscramble-kept (at .history) _ (at .back .now) (back .0) (back .1)),
+        (λ bad. absurd (bad (test .if1 .left)), filled-kept unscrambleNext unscrambleWords (at .history) _ (at .back .now) (back .0) (back .1)),
       ),
     )
 

@@ -2,8 +2,8 @@
 use native.Mathlib.Omega.{arith}
 use borrow.Author.Tests.{lt-ltb, le-ltb}
 use borrow.Author.Needs.{needs}
+use Rattle.raster.proofs.Lines.{between-yes, between-low, between-high}
 use Rattle.reader.specs.Reader.{ofTagByte}
-use Rattle.reader.proofs.Ranges.{range-inside, range-below, range-above}
 use Rattle.reader.proofs.Reader.of_tag_byte.Statement.{statement}
 use Rattle.reader.proofs.Reader.of_tag_byte.Tie as tie
 
@@ -12,14 +12,14 @@ refuse-requires c κs = search needs
 
 returns : tie.Need-returns
 unfolding ofTagByte
-returns c = rw (c .refuse .ensures, range-below 0x21 0x7e (c .before .before .args .byte) (omega arith))
+returns c = rw (c .refuse .ensures, between-low 0x21 0x7e (c .before .before .args .byte) (omega arith))
 
 refuse-requires-2 : tie.Need-refuse-requires-2
 refuse-requires-2 c κs = search needs
 
 returns-2 : tie.Need-returns-2
 unfolding ofTagByte
-returns-2 c = rw (c .refuse2 .ensures, range-above 0x21 0x7e (c .before .before .before .args .byte) (omega arith) (omega arith))
+returns-2 c = rw (c .refuse2 .ensures, between-high 0x21 0x7e (c .before .before .before .args .byte) (omega arith))
 
 tagged-requires : tie.Need-tagged-requires
 tagged-requires c κs = search needs
@@ -38,7 +38,7 @@ returns-3 c =
       c .bring .ensures,
       c .before .go-on .ensures,
       c .before .before .before .tagged .ensures,
-      range-inside 0x21 0x7e (at .byte) (omega arith) (omega arith),
+      between-yes 0x21 0x7e (at .byte) (omega arith) (omega arith),
       lt-ltb (at .self .count .left) 2 (omega arith),
     )
 
@@ -59,7 +59,7 @@ returns-4 c =
       c .bring2 .ensures,
       c .before .go-on2 .ensures,
       c .before .before .before .tagged .ensures,
-      range-inside 0x21 0x7e (at .byte) (omega arith) (omega arith),
+      between-yes 0x21 0x7e (at .byte) (omega arith) (omega arith),
       le-ltb (at .self .count .left) 2 (omega arith),
     )
 

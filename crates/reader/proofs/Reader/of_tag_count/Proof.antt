@@ -2,8 +2,8 @@
 use native.Mathlib.Omega.{arith}
 use borrow.Author.Tests.{lt-ltb, le-ltb}
 use borrow.Author.Needs.{needs}
+use Rattle.raster.proofs.Lines.{between-yes, between-low, between-high}
 use Rattle.reader.specs.Reader.{counted, ofTagCount}
-use Rattle.reader.proofs.Ranges.{range-inside, range-below, range-above}
 use Rattle.reader.proofs.Reader.of_tag_count.Statement.{statement}
 use Rattle.reader.proofs.Reader.of_tag_count.Tie as tie
 
@@ -26,7 +26,7 @@ returns-2 c =
     let start = c .before .before .before .before .before in
     let n = counted (start .args .byte) (start .args .self .count) in
     let e = c .before .before .before .before .with .ensures in
-    rw (c .refuse .ensures, le-ltb _ _ (c .before .before .if1 .left), range-below 1 32 n (omega (arith, e)))
+    rw (c .refuse .ensures, le-ltb _ _ (c .before .before .if1 .left), between-low 1 32 n (omega (arith, e)))
 
 refuse-requires-2 : tie.Need-refuse-requires-2
 refuse-requires-2 c κs = search needs
@@ -37,7 +37,7 @@ returns-3 c =
     let start = c .before .before .before .before .before .before in
     let n = counted (start .args .byte) (start .args .self .count) in
     let e = c .before .before .before .before .before .with .ensures in
-    rw (c .refuse2 .ensures, le-ltb _ _ (c .before .before .before .if1 .left), range-above 1 32 n (omega (arith, e)) (omega (arith, e)))
+    rw (c .refuse2 .ensures, le-ltb _ _ (c .before .before .before .if1 .left), between-high 1 32 n (omega (arith, e)))
 
 fresh-requires : tie.Need-fresh-requires
 fresh-requires c κs = search needs
@@ -61,7 +61,7 @@ returns-4 c =
       c .before .before .fresh .ensures,
       e,
       le-ltb _ _ (third .before .before .if1 .left),
-      range-inside 1 32 n (omega (arith, e)) (omega (arith, e)),
+      between-yes 1 32 n (omega (arith, e)) (omega (arith, e)),
     )
 
 pub of-tag-count-spec : {M : Type 1} → statement M

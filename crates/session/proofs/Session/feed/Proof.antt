@@ -1,14 +1,16 @@
 -- feed: a refusal leaves session and buffers; without one, T and the history are as take_words and history_after want them.
 use mathlib.Core.Path.{_≡_, sym, ap, _∙_}
+use mathlib.Core.Bool.{true}
 use native.Mathlib.Omega.{arith}
 use borrow.Author.Needs.{needs}
+use Rattle.bits.specs.Words.{words10}
 use Rattle.raster.specs.declared.LookedUp.{LookedUp}
+use Rattle.raster.specs.Table.{totalOf}
 use Rattle.raster.proofs.Table.{lookedUp-range}
 use Rattle.parts.proofs.Laid.{unlessRefused-refused}
-use Rattle.stepper.specs.Step.{totalOf}
 use Rattle.session.specs.Session.{feedRefusal, fed, fedY, fedC}
 use Rattle.session.proofs.Feeding.{fedRun-steps}
-use Rattle.session.proofs.Refusing.{fedBy-refused, Feeds, feedRefusal-none}
+use Rattle.session.proofs.Refusing.{fedBy-refused, Ready, ready-raster, ready-history, feed-taken}
 use Rattle.session.proofs.Session.feed.Statement.{statement}
 use Rattle.session.proofs.Session.feed.Tie as tie
 
@@ -19,8 +21,10 @@ none : (c : tie.Else1)
 none c = sym (c .before .feed-refusal .ensures) ∙ c .if1 .left
 
 -- so that a module runs, and its numbers and the words are in range
-feeds : (c : tie.Else1) → let at = c .before .before .before .before .before .before .before .args in Feeds (at .self) (at .words .now)
-feeds c = feedRefusal-none _ _ _ _ (none c)
+feeds : (c : tie.Else1)
+    → let at = c .before .before .before .before .before .before .before .args in
+    Ready (at .self) (at .y .now) (at .c .now) × (words10 (at .words .now) ≡ true)
+feeds c = feed-taken _ _ _ _ (none c)
 
 -- T is the raster's
 total : (c : tie.After-raster-of)
@@ -53,7 +57,7 @@ cast-total : tie.Need-cast-total
 cast-total c =
     let looked = c .before in
     let at = looked .before .before .before .before .before .before .before .before .args in
-    omega (arith, total looked, lookedUp-range (at .self .raster) (feeds (looked .before) .raster))
+    omega (arith, total looked, lookedUp-range (at .self .raster) (ready-raster (feeds (looked .before) .0)))
 
 take-words-requires : tie.Need-take-words-requires
 take-words-requires c κs = search needs
@@ -61,7 +65,7 @@ take-words-requires c κs = search needs
 history-after-requires : tie.Need-history-after-requires
 history-after-requires c κs =
     let fine = feeds (c .before .before .before .before .before .before .before .before .before) in
-    (fine .history, fine .words)
+    (ready-history (fine .0), fine .1)
 
 same-length-3 : tie.Need-same-length-3
 same-length-3 c = search needs
@@ -76,7 +80,7 @@ returns-2 c =
     let looked = taken .before .before .before .before in
     let at = looked .before .before .before .before .before .before .before .before .args in
     let after = fedRun-steps (at .self) (at .words .now) (at .y .now) (at .c .now) (total looked) (taken .take-words .ensures) in (
-      rw (none (looked .before), ← after, feeds (looked .before) .running, c .history-after .ensures),
+      rw (none (looked .before), ← after, feeds (looked .before) .0 .running, c .history-after .ensures),
       (rw (none (looked .before), ← after), rw (none (looked .before), ← after)),
     )
 

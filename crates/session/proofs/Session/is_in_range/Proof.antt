@@ -4,7 +4,7 @@ use mathlib.Core.Bool.{true}
 use borrow.Author.Needs.{needs}
 use borrow.Author.Tests.{not-true, not-false, le-leb, lt-leb}
 use Rattle.raster.specs.declared.LookedUp.{LookedUp}
-use Rattle.stepper.specs.Step.{totalOf}
+use Rattle.raster.specs.Table.{totalOf}
 use Rattle.session.specs.Session.{rasterIn, sightIn, inRange}
 use Rattle.session.proofs.Session.is_in_range.Statement.{statement}
 use Rattle.session.proofs.Session.is_in_range.Tie as tie

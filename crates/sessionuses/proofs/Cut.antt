@@ -6,11 +6,15 @@ use Prim.Native.Nat.{ℕ, zero, suc}
 use Rattle.bits.specs.Words.{words10}
 use Rattle.bits.proofs.Words.{words10-append}
 use Rattle.session.specs.declared.Session.{Session}
-use Rattle.session.specs.Session.{feedRefusal}
+use Rattle.session.specs.Session.{feedRefusal, fed, fedY, fedC}
 use Rattle.session.proofs.Refusing.{feed-taken}
 use Rattle.module.specs.Runs.{Bench, fedOnce, fedAll}
 use Rattle.module.proofs.Cuts.{fedAll-of-pieces}
-use Rattle.sessionuses.proofs.Refused.{feed-refused}
+
+-- "A refusal .. changes no buffer and no session."
+fedOnce-refused : (ws : List ℕ) (x : Bench) (n : ℕ) → feedRefusal (x .session) ws (x .y) (x .c) ≡ suc n → fedOnce ws x ≡ x
+unfolding fed fedY fedC
+fedOnce-refused ws x n e = rw e
 
 -- the words decide nothing as long as none is above 3FF
 feedRefusal-of-lawful : (s : Session) (ws vs y c : List ℕ) → words10 ws ≡ true → words10 vs ≡ true → feedRefusal s ws y c ≡ feedRefusal s vs y c
@@ -32,6 +36,4 @@ fedOnce-twice a b x wa wb = go (feedRefusal (x .session) a (x .y) (x .c)) refl
     go (suc n) e = ap (fedOnce b) (refused a wa) ∙ refused b wb ∙ sym (refused (a ++ b) both)
       where
         refused : (ws : List ℕ) → words10 ws ≡ true → fedOnce ws x ≡ x
-        refused ws w =
-            let q = feed-refused (x .session) ws (x .y) (x .c) refl refl refl n (feedRefusal-of-lawful (x .session) ws a (x .y) (x .c) w wa ∙ e) in
-            rw (q .1, q .2, q .3)
+        refused ws w = fedOnce-refused ws x n (feedRefusal-of-lawful (x .session) ws a (x .y) (x .c) w wa ∙ e)

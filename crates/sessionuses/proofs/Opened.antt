@@ -1,17 +1,13 @@
 -- A module begun in a fresh session: in range, with the raster's T.
 use mathlib.Core.Path.{_≡_, refl, ap, _∙_}
 use mathlib.Core.Bool.{true}
-use mathlib.Core.List.{[]}
 use Prim.Native.Nat.{ℕ}
-use native.Mathlib.Omega.{arith}
 use Rattle.raster.specs.Table.{rasterOk}
-use Rattle.raster.proofs.Table.{lookedUp-range}
 use Rattle.session.specs.declared.Session.{Session}
 use Rattle.session.specs.declared.Begun.{Begun}
 use Rattle.session.specs.Session.{closed, inRange, begun}
 use Rattle.module.proofs.Ranges.{closed-in-range, begun-in-range}
 use Rattle.module.proofs.Between.{begunAs, begun-opens}
-use Rattle.sessionuses.specs.Uses.{Fits}
 
 module _ (code : ℕ) (ok : rasterOk code ≡ true) where
   fresh-opens : begun closed code ≡ record { refusal = 0; session = begunAs code }
@@ -23,6 +19,3 @@ module _ (code : ℕ) (ok : rasterOk code ≡ true) where
   -- what begin answers of a fresh session
   pub opened : {s : Session} {g : Begun} → s ≡ closed → g ≡ begun s code → g ≡ record { refusal = 0; session = begunAs code }
   opened es eg = eg ∙ ap (λ (s : Session). begun s code) es ∙ fresh-opens
-
-  pub nothing-fits : Fits code [] [] → ⊥
-  nothing-fits room = omega (arith, room .0, lookedUp-range code ok .total-low)

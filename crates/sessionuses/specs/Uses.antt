@@ -4,7 +4,7 @@ use Prim.Native.Nat.{ℕ, _≤_, min}
 use lib.ListN.{length, take}
 use Rattle.raster.specs.Table.{meant, totalOf}
 use Rattle.module.specs.Module.{afterBits, bitsOf}
-use Rattle.tally.specs.declared.Verdict.the-variants.{Refused, NoSignal}
+use Rattle.tally.specs.declared.Verdict.the-variants.{NoSignal}
 use Rattle.tally.specs.Tally.{noCounts}
 use Rattle.stepper.specs.Step.{Run}
 use Rattle.session.specs.declared.Session.{Session}
@@ -18,10 +18,6 @@ Fits code y c = (totalOf code ≤ length y) × (totalOf code ≤ length c)
 -- "raster R rows 0 faults 0 NO SIGNAL"
 abbrev pub nothingIn : ℕ → Ended
 nothingIn code = record { refusal = 0; raster = meant code; counts = noCounts; verdict = NoSignal; session = closed }
-
--- "A refusal returns its number with zeros .. and changes no buffer and no session."
-abbrev pub notEnded : Session → Ended
-notEnded s = record { refusal = 7; raster = 0; counts = noCounts; verdict = Refused; session = s }
 
 -- what a buffer holds of an open row: as many words as pairs have ended, at most T
 abbrev pub openRow : ℕ → Session → List ℕ → List ℕ

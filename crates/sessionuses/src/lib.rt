@@ -1,4 +1,3 @@
 // What clients of a module session can conclude from its contracts alone.
 pub mod modules;
-pub mod refusals;
 pub mod rows;

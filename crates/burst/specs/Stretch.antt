@@ -24,7 +24,7 @@ channelWords y bs = grouped (length (channelBits y 0 bs) / 10) (channelBits y 0 
 abbrev pub received : ℕ → List Bool → List Bool → List Bool
 received h before cable = drop (length before) (unscrambled (past h) (before ++ cable))
 
--- of a stretch that holds row k's active pairs and then row k+1: row k's carry "from its own received active words"
+-- of a stretch that holds row k's active pairs and then row k+1: row k's carry, from its own received active words
 abbrev pub carryIn : Plan → List Bool → Carry
 carryIn p bs =
     Registers (crcWords crcStart (take (p .places .count) (channelWords true bs)))

@@ -10,3 +10,7 @@ pub mod Start
 pub mod Tail
 pub mod Clean
 pub mod Short
+pub mod Edges
+pub mod Growing
+pub mod Within
+pub mod Window

@@ -23,7 +23,7 @@ use Rattle.tally.specs.Tally.{tallied}
 use Rattle.stepper.specs.Step.{Run, run, stepped, steps}
 use Rattle.stepper.proofs.Stepping.{steps-of-append}
 use Rattle.module.specs.Module.{listed}
-use Rattle.clean.proofs.Sliding.{slides, NoSync, pairBits, firstBits, topBit, pairBits-split, length-firstBits, pairLast, slid-top, Seen, pair-seen}
+use Rattle.clean.proofs.Sliding.{slides, no-edge-sync, NoEdge, pairBits, firstBits, topBit, pairBits-split, length-firstBits, pairLast, slid-top, Seen, pair-seen}
 
 -- a module's state, number by number
 abbrev pub standing : Bool → ℕ → ℕ → ℕ → ℕ → Track → Counts → List ℕ → List ℕ → Run
@@ -77,7 +77,7 @@ module _ (code total : ℕ) (t : Track) (n : Counts) where
       event : eventOf total ahead (place pairs bit) (slid last b) ≡ Within
       event = rw (ne-eqb pairs 0 (λ e. omega arith), ne-eqb ahead 1 far, lt-leb 19 bit low, none)
 
-  pub quiet : (bs : List Bool) (last ahead pairs bit : ℕ) (y c : List ℕ) → 1 ≤ pairs → NoSync last bs → bit + length bs ≤ 19
+  pub quiet : (bs : List Bool) (last ahead pairs bit : ℕ) (y c : List ℕ) → 1 ≤ pairs → NoEdge last bs → bit + length bs ≤ 19
       → (ahead ≡ 0) ⊎ (length bs < ahead)
       → steps listed code total bs (standing true last ahead pairs bit t n y c)
       ≡ standing true (slides last bs) (ahead - length bs) pairs (bit + length bs) t n y c
@@ -89,7 +89,7 @@ module _ (code total : ℕ) (t : Track) (n : Counts) where
   quiet (b ∷ bs) last ahead pairs bit y c some none low far =
       let e : ahead - 1 - length bs ≡ ahead - suc (length bs) = omega arith in
       let f : bit + 1 + length bs ≡ bit + suc (length bs) = omega arith in
-      ap (steps listed code total bs) (within last ahead pairs bit b y c some (not-one far) (omega arith) (none .0))
+      ap (steps listed code total bs) (within last ahead pairs bit b y c some (not-one far) (omega arith) (no-edge-sync _ (none .0)))
       ∙ quiet bs (slid last b) (ahead - 1) pairs (bit + 1) y c some (none .1) (omega arith) (one-less far)
       ∙ ap₂ (λ (a k : ℕ). standing true (slides last (b ∷ bs)) a pairs k t n y c) e f
     where
@@ -104,7 +104,7 @@ abbrev pub grow : ℕ → ℕ → ℕ → List ℕ → List ℕ
 grow total pairs w row = if (ltb pairs total) (row ++ (w ∷ [])) row
 
 module _ (code total : ℕ) (t : Track) (n : Counts) (l pairs c y : ℕ) (ry rc : List ℕ)
-    (some : 1 ≤ pairs) (small : l < 0x1000000000000000) (low-c : c < 1024) (low-y : y < 1024) (none : NoSync l (firstBits c y))
+    (some : 1 ≤ pairs) (small : l < 0x1000000000000000) (low-c : c < 1024) (low-y : y < 1024) (none : NoEdge l (firstBits c y))
   where
     -- the nineteen bits before its last
     nineteen : (ahead : ℕ) → (ahead ≡ 0) ⊎ (19 < ahead)
@@ -169,14 +169,14 @@ module _ (code total : ℕ) (seen : Bool) (t : Track) (n : Counts) where
   abbrev outside : ℕ → ℕ → Run
   outside last ahead = standing seen last ahead 0 0 t n [] []
 
-  pub quiet-outside : (bs : List Bool) (last ahead : ℕ) → NoSync last bs → (ahead ≡ 0) ⊎ (length bs < ahead)
+  pub quiet-outside : (bs : List Bool) (last ahead : ℕ) → NoEdge last bs → (ahead ≡ 0) ⊎ (length bs < ahead)
       → steps listed code total bs (outside last ahead) ≡ outside (slides last bs) (ahead - length bs)
   unfolding steps eventOf happened listed tallied
   quiet-outside [] last ahead none far = let e : ahead ≡ ahead - 0 = omega arith in ap (outside last) e
   quiet-outside (b ∷ bs) last ahead none far =
       let e : ahead - 1 - length bs ≡ ahead - suc (length bs) = omega arith in
       ap (steps listed code total bs)
-      (step-with code total seen last ahead 0 0 t n [] [] b (slid last b) Outside false refl (event far) (none .0)
+      (step-with code total seen last ahead 0 0 t n [] [] b (slid last b) Outside false refl (event far) (no-edge-sync _ (none .0))
       ∙ ap (λ (s : Bool). standing s (slid last b) (ahead - 1) 0 0 t n [] []) (or-false seen))
       ∙ quiet-outside bs (slid last b) (ahead - 1) (none .1) (one-less far)
       ∙ ap (outside (slides last (b ∷ bs))) e

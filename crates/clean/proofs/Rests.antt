@@ -33,12 +33,12 @@ through code bs x = steps listed code (totalOf code) bs x
 -- ---- the words of a row
 
 -- what follows the EAV
-abbrev restY : ℕ → ℕ → Carry → Content → List ℕ
+abbrev pub restY : ℕ → ℕ → Carry → Content → List ℕ
 restY code line carry k =
     let p = planOf code line in
     middle p (carried carry .known) (carried carry .y) yBlank (endToEnd (k .y .packets)) ++ (trs (p .codes .sav) ++ k .y .active)
 
-abbrev restC : ℕ → ℕ → Carry → Content → List ℕ
+abbrev pub restC : ℕ → ℕ → Carry → Content → List ℕ
 restC code line carry k =
     let p = planOf code line in
     middle p (carried carry .known) (carried carry .c) cBlank (endToEnd (k .c .packets)) ++ (trs (p .codes .sav) ++ k .c .active)
@@ -79,10 +79,10 @@ module _ (code line : ℕ) (carry : Carry) (k : Content) where
   abbrev laidC : List ℕ
   laidC = endToEnd (k .c .packets)
 
-  ys-parts : ysOf code line carry k ≡ trs eav ++ restY code line carry k
+  pub ys-parts : ysOf code line carry k ≡ trs eav ++ restY code line carry k
   ys-parts = streamOf-parts plan (carried carry .known) (carried carry .y) yBlank (k .y .active) laidY
 
-  cs-parts : csOf code line carry k ≡ trs eav ++ restC code line carry k
+  pub cs-parts : csOf code line carry k ≡ trs eav ++ restC code line carry k
   cs-parts = streamOf-parts plan (carried carry .known) (carried carry .c) cBlank (k .c .active) laidC
 
   -- four pairs at least

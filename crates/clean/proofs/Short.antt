@@ -24,7 +24,7 @@ use Rattle.parts.proofs.Comparing.{any-cons}
 use Rattle.plan.specs.Plan.{planOf}
 use Rattle.plan.proofs.Plans.{planOf-fits}
 use Rattle.row.specs.declared.Carry.{Carry}
-use Rattle.row.specs.declared.Carry.the-variants.{Nothing}
+use Rattle.row.specs.Before.{carryOk}
 use Rattle.judging.specs.Happening.{lineAfter}
 use Rattle.judging.proofs.Lines.{lineAfter-ok}
 use Rattle.clean.specs.Signal.{Content, lawfulRow, rowBits, carryFrom, signalBits, lawful, OnlyAtStart, CleanPasses, CleanPassesShort}
@@ -137,15 +137,16 @@ ends-only : (rows q : List Bool) → Ends rows → length q < 53 → OnlyAtStart
 ends-only rows q (pair before c y hc low high) short u v split ends =
     absurd (no-end before q u v c y (sym (append-assoc before (pairBits c y) q) ∙ split) hc low high short ends)
 
-pub only-at-start-short : (code line : ℕ) (k : Content) (ks : List Content) (q : List Bool) → lineRefusal code line ≡ 0
-    → lawful code line (k ∷ ks) ≡ true → length q < 53 → OnlyAtStart (signalBits code line Nothing (k ∷ ks)) q
+pub only-at-start-short : (code line : ℕ) (carry : Carry) (k : Content) (ks : List Content) (q : List Bool) → lineRefusal code line ≡ 0
+    → carryOk carry ≡ true → lawful code line (k ∷ ks) ≡ true → length q < 53 → OnlyAtStart (signalBits code line carry (k ∷ ks)) q
 unfolding lawful
-only-at-start-short code line k ks q ok right short =
+only-at-start-short code line carry k ks q ok registers right short =
     let g = and-true (lawfulRow (planOf code line) k) _ right in
-    ends-only _ q (signal-ends ks code line Nothing k (lawful-row code line Nothing k ok refl (g .0)) (g .1)) short
+    ends-only _ q (signal-ends ks code line carry k (lawful-row code line carry k ok registers (g .0)) (g .1)) short
 
 pub clean-passes-short : CleanPassesShort
 unfolding CleanPassesShort CleanPasses
-clean-passes-short code line [] ws p q clean short = absurd (omega (arith, clean .count))
-clean-passes-short code line (k ∷ ks) ws p q clean short =
-    clean-passes code line (k ∷ ks) ws p q clean (omega arith) (only-at-start-short code line k ks q (clean .line-ok) (clean .right) short)
+clean-passes-short code line carry [] ws p q clean short = absurd (omega (arith, clean .count))
+clean-passes-short code line carry (k ∷ ks) ws p q clean short =
+    clean-passes code line carry (k ∷ ks) ws p q clean (omega arith)
+    (only-at-start-short code line carry k ks q (clean .line-ok) (clean .carry-ok) (clean .right) short)

@@ -24,7 +24,7 @@ use Rattle.tally.specs.Tally.{tallied}
 use Rattle.stepper.specs.Step.{Run, steps}
 use Rattle.stepper.proofs.Stepping.{steps-of-append}
 use Rattle.module.specs.Module.{listed}
-use Rattle.clean.proofs.Sliding.{NoSync, high-no-sync, one-no-sync, no-sync-after, pairBits, firstBits, length-pairBits, length-firstBits, pairLast, no-sync-pair, pair-seen}
+use Rattle.clean.proofs.Sliding.{NoEdge, high-no-edge, one-no-edge, no-edge-after, pairBits, firstBits, length-pairBits, length-firstBits, pairLast, no-edge-pair, pair-seen}
 use Rattle.clean.proofs.Quiet.{standing, grow, plain-pair, whole-pair}
 use Rattle.clean.proofs.Spaced.{Spaced, spaced-after}
 
@@ -94,25 +94,25 @@ module _ (code total : ℕ) where
 -- ---- a stretch in which no sync ends
 
 -- all ones first
-full-no-sync : (l y : ℕ) → NoSync l (pairBits 0x3ff y)
+full-no-edge : (l y : ℕ) → NoEdge l (pairBits 0x3ff y)
 unfolding bits odd
-full-no-sync l y = one-no-sync l (bits 9 0x1ff ++ bits 10 y) (omega arith)
+full-no-edge l y = one-no-edge l (bits 9 0x1ff ++ bits 10 y) (omega arith)
 
 -- "20 ones then 40 zeros" at any bit hold a whole pair of zeros; after its C word, 000, there is a 3FF in C: Y may have any words
-spaced-no-sync : (l c v y : ℕ) → ((c ≡ 0 → ⊥) → 0x10000000000 ≤ l) → (c ≡ 0 → v ≡ 0x3ff) → NoSync l (pairBits v y)
-spaced-no-sync l c v y led next = go (ℕ-discrete c 0)
+pub spaced-no-edge : (l c v y : ℕ) → ((c ≡ 0 → ⊥) → 0x10000000000 ≤ l) → (c ≡ 0 → v ≡ 0x3ff) → NoEdge l (pairBits v y)
+spaced-no-edge l c v y led next = go (ℕ-discrete c 0)
   where
-    go : Dec (c ≡ 0) → NoSync l (pairBits v y)
-    go (yes e) = rw (next e) (full-no-sync l y)
-    go (no g) = high-no-sync l (pairBits v y) (rw (length-pairBits v y) (led g))
+    go : Dec (c ≡ 0) → NoEdge l (pairBits v y)
+    go (yes e) = rw (next e) (full-no-edge l y)
+    go (no g) = high-no-edge l (pairBits v y) (rw (length-pairBits v y) (led g))
 
 module _ (code total : ℕ) (t : Track) (n : Counts) where
   -- one pair
   plain : (c v y pairs ahead : ℕ) (ry rc : List ℕ) (x : Run) → 1 ≤ pairs → pairs < total + 3 → v < 1024 → y < 1024
-      → (ahead ≡ 0) ⊎ ((ahead ≡ 20) × (isEav y ≡ false)) → (s : Stands c pairs ahead t n ry rc x) → NoSync (s .last) (pairBits v y)
+      → (ahead ≡ 0) ⊎ ((ahead ≡ 20) × (isEav y ≡ false)) → (s : Stands c pairs ahead t n ry rc x) → NoEdge (s .last) (pairBits v y)
       → Stands v (pairs + 1) 0 t n (grow total pairs y ry) (grow total pairs v rc) (steps listed code total (pairBits v y) x)
   plain c v y pairs ahead ry rc x some early low-v low-y far s none =
-      let r = no-sync-pair (s .last) v y low-v low-y none in
+      let r = no-edge-pair (s .last) v y low-v low-y none in
       let after = pair-seen (s .last) v y (s .small) low-v low-y in
       record {
         last = pairLast (s .last) v y;
@@ -137,7 +137,7 @@ module _ (code total : ℕ) (t : Track) (n : Counts) where
       let hv = words10-head v vs tens in
       let hy = words10-head y ys tens-y in
       let e : pairs + 1 + length vs ≡ pairs + suc (length vs) = omega arith in
-      let none = spaced-no-sync (s .last) c v y (s .led) (a .0) in
+      let none = spaced-no-edge (s .last) c v y (s .led) (a .0) in
       let one = plain c v y pairs 0 ry rc x some (omega arith) (omega arith) (omega arith) (inl refl) s none in
       stands-same e refl refl (sent-cons code total v y vs ys x)
       (stretch vs ys v (pairs + 1) (grow total pairs y ry) (grow total pairs v rc) (steps listed code total (pairBits v y) x) (a .1)
@@ -155,9 +155,9 @@ module _ (code total : ℕ) (t : Track) (n : Counts) where
       let s1 = pair-seen (s .last) 0x3ff 0x3ff (s .small) (omega arith) (omega arith) in
       let l2 = pairLast l1 0x000 0x000 in
       let s2 = pair-seen l1 0x000 0x000 (s1 .small) (omega arith) (omega arith) in
-      let n1 = no-sync-pair (s .last) 0x3ff 0x3ff (omega arith) (omega arith) (full-no-sync (s .last) 0x3ff) in
-      let n2 = no-sync-pair l1 0x000 0x000 (omega arith) (omega arith) (high-no-sync l1 (pairBits 0 0) (rw (length-pairBits 0 0) (omega arith))) in
-      let n3 : NoSync l2 (firstBits 0 0) = high-no-sync l2 (firstBits 0 0) (rw (length-firstBits 0 0) (omega arith)) in
+      let n1 = no-edge-pair (s .last) 0x3ff 0x3ff (omega arith) (omega arith) (full-no-edge (s .last) 0x3ff) in
+      let n2 = no-edge-pair l1 0x000 0x000 (omega arith) (omega arith) (high-no-edge l1 (pairBits 0 0) (rw (length-pairBits 0 0) (omega arith))) in
+      let n3 : NoEdge l2 (firstBits 0 0) = high-no-edge l2 (firstBits 0 0) (rw (length-firstBits 0 0) (omega arith)) in
       let l3 : pairLast l2 0x000 0x000 ≡ 0xfffff = omega arith in
       let is : isSync (pairLast l2 0x000 0x000) ≡ true = isSync-number _ l3 in
       let y1 = grow total pairs 0x3ff ry in
@@ -188,7 +188,7 @@ module _ (code total : ℕ) (t : Track) (n : Counts) where
       let mid : Stands 0 (pairs + 1 + 1 + 1) 20 t n y3 c3 after =
       record { last = 0xfffff; same = synced c pairs ry rc x some (omega arith) s; small = omega arith; led = λ g. absurd (g refl) } in
       stands-same e refl refl (sent-trs code total v x)
-      (plain 0 v v (pairs + 1 + 1 + 1) 20 y3 c3 after (omega arith) (omega arith) low low (inr (refl, other)) mid (no-sync-after v v))
+      (plain 0 v v (pairs + 1 + 1 + 1) 20 y3 c3 after (omega arith) (omega arith) low low (inr (refl, other)) mid (no-edge-after v v))
 
   -- an EAV after T pairs: the row is whole, and the next is open
   pub eav-code : (v c : ℕ) (ry rc : List ℕ) (x : Run) → v < 1024 → isEav v ≡ true → 1 ≤ total → Stands c total 0 t n ry rc x
@@ -198,7 +198,7 @@ module _ (code total : ℕ) (t : Track) (n : Counts) where
   eav-code v c ry rc x low is some s =
       let y3 = grown total total sync3 ry in
       let c3 = grown total total sync3 rc in
-      let none = no-sync-pair 0xfffff v v low low (no-sync-after v v) in
+      let none = no-edge-pair 0xfffff v v low low (no-edge-after v v) in
       let seen = pair-seen 0xfffff v v (omega arith) low low in
       let xyz = whole-pair code total t n 0xfffff (total + 1 + 1 + 1) v v y3 c3 (omega arith) (omega arith) low low (none .0) in
       record {

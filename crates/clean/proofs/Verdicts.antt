@@ -1,6 +1,6 @@
--- What happens to a built row that is whole: it is judged, and has no flag.
+-- What happens to a built row that is whole: it is judged, with the carry of building or with none, and has no flag.
 use mathlib.Core.Path.{_≡_, refl, ap, ap₂, _∙_}
-use mathlib.Core.Bool.{true}
+use mathlib.Core.Bool.{Bool}
 use mathlib.Core.List.{List, [], _∷_}
 use mathlib.Core.Logic.{_⊎_, inl, inr}
 use Prim.Native.Nat.{ℕ, zero, suc, _≤_}
@@ -19,11 +19,11 @@ use Rattle.plan.proofs.Plans.{planOf-fits, planOf-found, planOf-total}
 use Rattle.stream.specs.Words.{yBlank, cBlank, lineWordsOf}
 use Rattle.row.specs.declared.Carry.{Carry}
 use Rattle.row.specs.declared.Carry.the-variants.{Registers}
-use Rattle.row.specs.Before.{carried, carryOk}
+use Rattle.row.specs.Before.{carried}
 use Rattle.row.specs.Row.{judgedBy, judged}
 use Rattle.compose.specs.Compose.{streamOf, yStream, cStream}
 use Rattle.rowlaws.proofs.BuiltParts.{length-streamOf, registerAfter-streamOf}
-use Rattle.rowlaws.proofs.NoFlag.{built-no-flag}
+use Rattle.rowlaws.proofs.NoFlag.{OwnOrNone, judged-no-flag}
 use Rattle.recogniser.specs.declared.Event.the-variants.{Whole}
 use Rattle.judging.specs.declared.Track.{Track}
 use Rattle.judging.specs.declared.Happened.{Happened}
@@ -43,38 +43,37 @@ csOf code line carry k = cStream (planOf code line) carry (k .c .active) (endToE
 -- a row that is lawful
 pub record LawfulRow (code line : ℕ) (carry : Carry) (k : Content) : Type 0 where
   pub ok : lineRefusal code line ≡ 0
-  pub registers : carryOk carry ≡ true
   pub y : Lawful (planOf code line) (carried carry .known) (carried carry .y) yBlank (k .y)
   pub c : Lawful (planOf code line) (carried carry .known) (carried carry .c) cBlank (k .c)
 
 -- without a flag, its line known
-abbrev pub rightRow : ℕ → ℕ → Carry → Content → Happened
-rightRow code line carry k =
-    record { happening = RowJudged line 0 (carried carry .known); track = record { line = lineAfter code line; carry = carryFrom k } }
+abbrev pub rightRow : ℕ → ℕ → Bool → Content → Happened
+rightRow code line known k = record { happening = RowJudged line 0 known; track = record { line = lineAfter code line; carry = carryFrom k } }
 
 module _ (code line : ℕ) (carry : Carry) (k : Content) (row : LawfulRow code line carry k) where
-  length-ys : length (ysOf code line carry k) ≡ totalOf code
+  pub length-ys : length (ysOf code line carry k) ≡ totalOf code
   length-ys =
       length-streamOf (planOf code line) (planOf-fits code line (row .ok)) (carried carry .known) (carried carry .y) yBlank (k .y .active)
       (endToEnd (k .y .packets)) (row .y .long) (row .y .room)
       ∙ planOf-total code line (row .ok)
 
-  length-cs : length (csOf code line carry k) ≡ totalOf code
+  pub length-cs : length (csOf code line carry k) ≡ totalOf code
   length-cs =
       length-streamOf (planOf code line) (planOf-fits code line (row .ok)) (carried carry .known) (carried carry .c) cBlank (k .c .active)
       (endToEnd (k .c .packets)) (row .c .long) (row .c .room)
       ∙ planOf-total code line (row .ok)
 
-  judged-built : judged code line carry (ysOf code line carry k) (csOf code line carry k) ≡ record { flags = 0; carry = carryFrom k }
+  judged-built : (seen : Carry) → OwnOrNone carry seen
+      → judged code line seen (ysOf code line carry k) (csOf code line carry k) ≡ record { flags = 0; carry = carryFrom k }
   unfolding judged
-  judged-built =
+  judged-built seen own =
       let p = planOf code line in
       let fits = planOf-fits code line (row .ok) in
       let b = carried carry in
-      ap (λ (n : ℕ). judgedBy n p carry (ysOf code line carry k) (csOf code line carry k)) (row .ok)
+      ap (λ (n : ℕ). judgedBy n p seen (ysOf code line carry k) (csOf code line carry k)) (row .ok)
       ∙ ap₂ (λ (f : ℕ) (after : Carry). record { flags = f; carry = after })
-      (built-no-flag code line carry (k .y .active) (k .c .active) (k .y .packets) (k .c .packets) (row .ok) (row .registers)
-      (row .y .lengths) (row .c .lengths) (row .y .right) (row .c .right) (row .y .plain) (row .c .plain))
+      (judged-no-flag code line carry (k .y .active) (k .c .active) (k .y .packets) (k .c .packets) (row .ok)
+      (row .y .lengths) (row .c .lengths) (row .y .right) (row .c .right) (row .y .plain) (row .c .plain) seen own)
       (ap₂ Registers
       (registerAfter-streamOf p fits (b .known) (b .y) yBlank (k .y .active) (endToEnd (k .y .packets)) (row .y .long) (row .y .room))
       (registerAfter-streamOf p fits (b .known) (b .c) cBlank (k .c .active) (endToEnd (k .c .packets)) (row .c .long) (row .c .room)))
@@ -97,15 +96,15 @@ module _ (code line : ℕ) (carry : Carry) (k : Content) (row : LawfulRow code l
   line-found zero (inr e) = absurd (omega (arith, line-low))
   line-found (suc m) (inr e) = e
 
-  pub whole-built : (t : Track) → (t .line ≡ 0) ⊎ (t .line ≡ line) → t .carry ≡ carry
+  pub whole-built : (t : Track) → (t .line ≡ 0) ⊎ (t .line ≡ line) → OwnOrNone carry (t .carry)
       → happened Whole code t (part 0 (totalOf code) (ysOf code line carry k)) (part 0 (totalOf code) (csOf code line carry k))
-      ≡ rightRow code line carry k
+      ≡ rightRow code line (carried (t .carry) .known) k
   unfolding happened
-  whole-built t expected same =
+  whole-built t expected own =
       rw (
         take-all (totalOf code) (ysOf code line carry k) (omega (arith, length-ys)),
         take-all (totalOf code) (csOf code line carry k) (omega (arith, length-cs)),
         line-found (t .line) expected,
-        same,
       )
-      (completed-numbered code line carry (ysOf code line carry k) (csOf code line carry k) (λ z. omega (arith, line-low)) ∙ ap (rowJudged code line carry) judged-built)
+      (completed-numbered code line (t .carry) (ysOf code line carry k) (csOf code line carry k) (λ z. omega (arith, line-low))
+      ∙ ap (rowJudged code line (t .carry)) (judged-built (t .carry) own))

@@ -11,6 +11,7 @@ use Rattle.demands.proofs.VerdictOwn.{verdict-own}
 use Rattle.demands.proofs.SameVerdict.{same-verdict}
 use Rattle.demands.proofs.LeftBetween.{left-between}
 use Rattle.demands.proofs.TakenAlone.{taken-alone}
+use Rattle.demands.proofs.NothingTaken.{nothing-taken}
 use Rattle.demands.proofs.NothingLeft.{nothing-left}
 
 pub demand-one : DemandOne
@@ -23,6 +24,7 @@ demand-one =
       same = same-verdict;
       between = left-between;
       taken-alone = taken-alone;
+      nothing-taken = nothing-taken;
       nothing-left = nothing-left;
       never-refused = never-refused;
       served-alike = served-alike;

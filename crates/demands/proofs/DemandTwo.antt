@@ -5,6 +5,7 @@ use Rattle.timing.specs.Xyz.{readXyz}
 use Rattle.timing.proofs.Codes.{xyz-read-of-build, xyz-build-of-read}
 use Rattle.clean.proofs.Clean.{clean-passes}
 use Rattle.clean.proofs.Short.{clean-passes-short}
+use Rattle.clean.proofs.Window.{window-passes}
 use Rattle.demands.specs.Demands.{FromTheEleventh, XyzReadBack, DemandTwo}
 use Rattle.demands.proofs.Numbers.{numbers}
 use Rattle.demands.proofs.FirstSync.{first-sync}
@@ -13,6 +14,7 @@ use Rattle.demands.proofs.PacketRight.{packet-right}
 use Rattle.demands.proofs.PacketFound.{packet-found}
 use Rattle.demands.proofs.Coding.{unscrambled-back, calls-cut}
 use Rattle.demands.proofs.BuiltNoFlag.{built-no-flag}
+use Rattle.demands.proofs.RowExtracted.{row-extracted}
 use Rattle.demands.proofs.CorrectedFlags.{corrected-flags}
 use Rattle.demands.proofs.FeedsCut.{feeds-cut}
 
@@ -30,8 +32,10 @@ demand-two =
       unscrambled-back = unscrambled-back;
       calls-cut = calls-cut;
       built-no-flag = built-no-flag;
+      row-extracted = row-extracted;
       corrected-flags = corrected-flags;
       feeds-cut = feeds-cut;
       clean-passes = clean-passes;
       clean-passes-short = clean-passes-short;
+      window-passes = window-passes;
     }

@@ -10,12 +10,14 @@ pub mod TakenAlone
 pub mod VerdictOwn
 pub mod SameVerdict
 pub mod NothingLeft
+pub mod NothingTaken
 pub mod FirstSync
 pub mod LineReadBack
 pub mod PacketRight
 pub mod PacketFound
 pub mod Coding
 pub mod BuiltNoFlag
+pub mod RowExtracted
 pub mod CorrectedFlags
 pub mod RowsStruck
 pub mod DemandOne

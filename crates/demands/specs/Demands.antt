@@ -45,7 +45,7 @@ use Rattle.session.specs.declared.Ended.{Ended}
 use Rattle.session.specs.Session.{closed, inRange, beginRefusal, begun, feedRefusal, fed, ended}
 use Rattle.module.specs.Module.{Answer, moduleOf}
 use Rattle.module.specs.Runs.{Bench, fedOnce, fedAll, started, answered, left}
-use Rattle.clean.specs.Signal.{CleanPasses, CleanPassesShort}
+use Rattle.clean.specs.Signal.{CleanPasses, CleanPassesShort, WindowPasses}
 use Rattle.struck.specs.Struck.{StruckFails}
 use Rattle.reader.specs.declared.Stage.{Stage}
 use Rattle.reader.specs.declared.Stage.the-variants.{TagCount, TagBytes, OptionsCount, RasterByte, WipeByte, WordCount, LowByte, HighByte, Stopped}
@@ -170,9 +170,9 @@ pub record EachCall : Type 0 where
       → Keeps (7 unless (not (s .running) && inRange s) ∷ 4 unless rasterOk code ∷ []) (begun s code .refusal) s (begun s code .session)
   pub feed : (ws : List ℕ) (x : Bench)
       → let s = x .session in
-      let total = totalOf (s .raster) in
+      let rowWords = totalOf (s .raster) in
       Keeps
-      (7 unless (s .running && inRange s) ∷ 3 unless words10 ws ∷ 1 unless (leb total (length (x .y)) && leb total (length (x .c))) ∷ [])
+      (7 unless (s .running && inRange s) ∷ 3 unless words10 ws ∷ 1 unless (leb rowWords (length (x .y)) && leb rowWords (length (x .c))) ∷ [])
       (fed s ws (x .y) (x .c) .refusal) x (fedOnce ws x)
   pub end : (s : Session) → Keeps (7 unless (s .running && inRange s) ∷ []) (ended s .refusal) s (ended s .session)
   pub read : (r : Reader) (b : ℕ) → Answers (byteTests (r .stage) r b) (pieceRefusal (readOf r b .piece))
@@ -230,19 +230,24 @@ LeftBetween = (code : ℕ) (feeds : List (List ℕ)) (x : Bench) → inRange (x 
 abbrev pub sound : List (List ℕ) → List ℕ
 sound feeds = flatMap (λ ws. if (words10 ws) ws []) feeds
 
--- where feeds were refused on the way, the words are those of the others: again a matter of raster and words alone
+-- where feeds were refused on the way for a word above 3FF, the words are those of the others: again a matter of raster and words alone
 unfoldable pub TakenAlone : Type 0
 TakenAlone = (code : ℕ) (feeds : List (List ℕ)) (x : Bench) → rasterOk code ≡ true → Between x → Fits code (x .y) (x .c)
     → answered code feeds x ≡ endOf (moduleOf code (sound feeds))
+
+-- where a buffer is too short for the raster's T every feed is refused (`EachCall`): the answer is that of no words
+unfoldable pub NothingTaken : Type 0
+NothingTaken = (code : ℕ) (feeds : List (List ℕ)) (x : Bench) → rasterOk code ≡ true → Between x → (Fits code (x .y) (x .c) → ⊥)
+    → answered code feeds x ≡ endOf (moduleOf code [])
 
 -- and a module without words, after whatever module: NO SIGNAL, no row and no fault
 unfoldable pub NothingLeft : Type 0
 NothingLeft = (code : ℕ) (x : Bench) → rasterOk code ≡ true → Between x
     → answered code [] x ≡ endOf (record { raster = meant code; counts = noCounts; verdict = NoSignal })
 
--- In the bench file: no call of a desk is refused on the way; in whatever pieces the bytes arrive, and whatever session and buffers were there
--- before, the same is told and printed, the file's own outcomes; a job's line depends on that job's bytes alone, and what stands after a
--- refusal changes nothing.
+-- In the bench file, from a desk between jobs and with row buffers that hold any raster's row: no call of the desk is refused on the way; in
+-- whatever pieces the bytes arrive, and whatever session and buffers were there before, the same is told and printed, the file's own outcomes.
+-- A job's line depends on that job's bytes alone, and what stands after a refusal changes nothing.
 pub record DemandOne : Type 0 where
   pub calls : EachCall
   pub outcomes : EachOutcome
@@ -251,6 +256,7 @@ pub record DemandOne : Type 0 where
   pub same : SameVerdict
   pub between : LeftBetween
   pub taken-alone : TakenAlone
+  pub nothing-taken : NothingTaken
   pub nothing-left : NothingLeft
   pub never-refused : NeverRefused
   pub served-alike : ServedAlike
@@ -269,14 +275,14 @@ unfoldable pub FromTheEleventh : Type 0
 FromTheEleventh = (g h : ℕ) (ws : List ℕ) → drop 10 (wordBits (unscrambleWords g ws)) ≡ drop 10 (wordBits (unscrambleWords h ws))
 
 -- "A sync is 20 ones then 40 zeros": one starts at this bit
-abbrev pub syncAt : ℕ → List ℕ → Bool
-syncAt place ws = startsWith (syncOf hdUnit) (drop place (wordBits ws))
+abbrev pub syncStarts : ℕ → List ℕ → Bool
+syncStarts place ws = startsWith (syncOf hdUnit) (drop place (wordBits ws))
 
 -- "Finding alignment .. answers the bit place of the first sync, from 0, or none."
 pub record FirstSync : Type 0 where
   pub found : (ws : List ℕ) (n : ℕ) → syncPlace (foundSync ws) ≡ some n
-      → (syncAt n ws ≡ true) × ((k : ℕ) → k < n → syncAt k ws ≡ false)
-  pub nowhere : (ws : List ℕ) → words10 ws ≡ true → syncPlace (foundSync ws) ≡ none → (k : ℕ) → syncAt k ws ≡ false
+      → (syncStarts n ws ≡ true) × ((k : ℕ) → k < n → syncStarts k ws ≡ false)
+  pub nowhere : (ws : List ℕ) → words10 ws ≡ true → syncPlace (foundSync ws) ≡ none → (k : ℕ) → syncStarts k ws ≡ false
 
 -- "Reading answers F, V and H, or not exact.": F, V and H exactly of the word that is built of them
 unfoldable pub XyzReadBack : Type 0
@@ -342,6 +348,28 @@ BuiltNoFlag = (code line : ℕ) (carry : Carry) (yActive cActive yLaid cLaid y c
     let seen = checked code line carry (builtRow code line (yStream p carry yActive yLaid) y) (builtRow code line (cStream p carry cActive cLaid) c) in
     (seen .refusal ≡ 0) × (seen .flags ≡ 0) × (seen .carry ≡ builtFor 0 yActive cActive .carry)
 
+-- the packets that extraction leaves at the start of its output
+abbrev pub extractedPackets : ℕ → ℕ → Channel → List ℕ → List ℕ → List ℕ → List ℕ
+extractedPackets code line channel y c out =
+    part 0 (extracted code line channel y c (length out) .words)
+    (laidUnless (extractRefusal code line channel y c (length out)) (packetsIn code line (channelOf channel y c)) out)
+
+-- "Extraction copies all whole packets of a channel, in order, end to end.": of a line so built, with any carry or none, they are exactly those
+-- that were laid into its blanking, also where V is 1 and its active words are searched too; and an output that is long enough gets them
+unfoldable pub RowExtracted : Type 0
+RowExtracted = (code line : ℕ) (carry : Carry) (yActive cActive yLaid cLaid y c : List ℕ) (yPackets cPackets : List (List ℕ))
+    → buildRefusal code line carry yActive cActive yLaid cLaid (length y) (length c) ≡ 0
+    → LawfulLine yActive cActive yLaid cLaid yPackets cPackets
+    → (channel : Channel) (out : List ℕ)
+    → let p = planOf code line in
+    let yRow = builtRow code line (yStream p carry yActive yLaid) y in
+    let cRow = builtRow code line (cStream p carry cActive cLaid) c in
+    let packets = channelOf channel yLaid cLaid in
+    (packetsIn code line (channelOf channel yRow cRow) ≡ packets)
+    × (length packets ≤ length out
+    → (extracted code line channel yRow cRow (length out) ≡ record { refusal = 0; words = length packets })
+    × (extractedPackets code line channel yRow cRow out ≡ packets))
+
 -- "Rechecked with the same carried CRC, flags 0 to 6 are clear; 7 and 8 remain as they were. If wiping is chosen, .. all else, flag 7 too,
 -- then follows from the wiped row.": 128 parts flags 0 to 6 from 7 and 8
 unfoldable pub CorrectedFlags : Type 0
@@ -357,9 +385,10 @@ CorrectedFlags = (code line : ℕ) (carry : Carry) (wipe : Bool) (y c : List ℕ
 unfoldable pub FeedsCut : Type 0
 FeedsCut = (feeds : List (List ℕ)) (x : Bench) → feedRefusal (x .session) (endToEnd feeds) (x .y) (x .c) ≡ 0 → fedAll feeds x ≡ fedOnce (endToEnd feeds) x
 
--- A clean signal passes: N + 2 lines built one after the other, the first without a carry, each other with that of the line before, of words and
--- packets as above, in which no word after the 000 3FF 3FF is a reserved code; after bits without a sync, and before fewer than 53 bits, or fewer
--- than 80 in which no sync ends but one that starts with them.
+-- A clean signal passes: N + 2 lines or more built one after the other, the first with any carry or none, each other with that of the line before,
+-- of words and packets as above, in which no word after the 000 3FF 3FF is a reserved code; after bits in which each sync's pair ends and is no EAV, and
+-- before fewer than 53 bits, or fewer than 80 in which no sync ends but one that starts with them. All of them count but the first and the last, up to
+-- the ceiling. And a capture from the cable of such lines passes, wherever it is cut out of them, if it is longer than N + 3 lines.
 pub record DemandTwo : Type 0 where
   pub numbers : NumbersHold
   pub eleventh : FromTheEleventh
@@ -371,10 +400,12 @@ pub record DemandTwo : Type 0 where
   pub unscrambled-back : UnscrambledBack
   pub calls-cut : CallsCut
   pub built-no-flag : BuiltNoFlag
+  pub row-extracted : RowExtracted
   pub corrected-flags : CorrectedFlags
   pub feeds-cut : FeedsCut
   pub clean-passes : CleanPasses
   pub clean-passes-short : CleanPassesShort
+  pub window-passes : WindowPasses
 
 -- ==== Demand 3
 

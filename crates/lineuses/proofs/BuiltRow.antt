@@ -72,13 +72,13 @@ module _ (code line : ℕ) (carry : Carry) (yActive cActive yLaid cLaid y c : Li
     fits : Fits (plan .places)
     fits = planOf-fits code line (from .ok)
 
-    long-y : (length yActive ≡ plan .places .count) × (length yLaid ≤ plan .places .blanks)
+    pub long-y : (length yActive ≡ plan .places .count) × (length yLaid ≤ plan .places .blanks)
     long-y = lengths-of plan yActive yLaid (from .y-lengths)
 
-    long-c : (length cActive ≡ plan .places .count) × (length cLaid ≤ plan .places .blanks)
+    pub long-c : (length cActive ≡ plan .places .count) × (length cLaid ≤ plan .places .blanks)
     long-c = lengths-of plan cActive cLaid (from .c-lengths)
 
-    built-fits : RowFits code line inY inC
+    pub built-fits : RowFits code line inY inC
     built-fits =
         let known = carried carry .known in
         record {
@@ -89,11 +89,11 @@ module _ (code line : ℕ) (carry : Carry) (yActive cActive yLaid cLaid y c : Li
           c-words = tens-streamOf code line (from .ok) known (carried carry .c) cBlank cActive cLaid (omega arith) (from .c-active) (from .c-laid);
         }
 
-    built-y : part 0 (plan .places .total) (laidUnless refusal inY y) ≡ inY
+    pub built-y : part 0 (plan .places .total) (laidUnless refusal inY y) ≡ inY
     built-y =
         rw ok (part-over-laid 0 (plan .places .total) inY y (built-fits .y-length ∙ sym (length-take-le (plan .places .total) y (from .y-room))))
 
-    built-c : part 0 (plan .places .total) (laidUnless refusal inC c) ≡ inC
+    pub built-c : part 0 (plan .places .total) (laidUnless refusal inC c) ≡ inC
     built-c =
         rw ok (part-over-laid 0 (plan .places .total) inC c (built-fits .c-length ∙ sym (length-take-le (plan .places .total) c (from .c-room))))
 
@@ -140,7 +140,7 @@ module _ (code line : ℕ) (carry : Carry) (yActive cActive yLaid cLaid y c : Li
       pub row-clean : (yPackets cPackets : List (List ℕ)) → LawfulLine yActive cActive yLaid cLaid yPackets cPackets → seen .flags ≡ 0
       row-clean yPackets cPackets l =
           let made = from ok in
-          let clean = built-no-flag code line carry yActive cActive yPackets cPackets (made .ok) (made .registers)
+          let clean = built-no-flag code line carry yActive cActive yPackets cPackets (made .ok)
           (ap (lengthsOk plan yActive) (sym (l .y-laid)) ∙ made .y-lengths) (ap (lengthsOk plan cActive) (sym (l .c-laid)) ∙ made .c-lengths)
           (l .y-right) (l .c-right) (l .y-plain) (l .c-plain) in
           ap (λ r. r .flags) row-seen

@@ -1,22 +1,23 @@
 -- A packet that is built, laid into the blanking of Y after whole packets of which none is wanted, and found again.
 use mathlib.Core.Path.{_≡_, refl, sym, ap, ap₂, _∙_}
-use mathlib.Core.Bool.{Bool, true, false, not}
+use mathlib.Core.Bool.{Bool, true, not}
 use mathlib.Core.List.{List, [], _∷_, _++_, flatMap, map}
 use Prim.Native.Nat.{ℕ, zero, suc, _+_, _-_, _*_, _≤_, _<_}
 use native.Mathlib.Omega.{arith}
+use lib.Dec.{eqb}
 use lib.ListN.{drop, length, length-drop, take}
 use lib.Seq.{length-take-le, take-append-add}
-use borrow.Author.Tests.{eq-eqb, not-true}
+use borrow.Author.Tests.{eq-eqb, not-false}
 use Rattle.bits.specs.Bits.{bits, digit, parity}
 use Rattle.bits.specs.Words.{words10}
 use Rattle.bits.proofs.Choice.{if-zero}
 use Rattle.bits.proofs.Words.{nine-range, tens-append, words10-cons}
-use Rattle.parts.specs.Parts.{any, endToEnd, laid, laidUnless, part, same}
-use Rattle.parts.proofs.Comparing.{any-of-map, any-weaken, same-refl}
+use Rattle.parts.specs.Parts.{endToEnd, laid, laidUnless, part, same}
+use Rattle.parts.proofs.Comparing.{any-of-map, same-refl}
 use Rattle.parts.proofs.Laid.{drop-to-laid, laid-split, length-laid, part-over-laid, unlessRefused-refused}
-use Rattle.scan.specs.Packet.{checksumOf}
+use Rattle.scan.specs.Packet.{checksumIn, checksumOf, rightChecksum}
 use Rattle.scan.specs.Scan.{Packet, scan, wordsOf}
-use Rattle.scan.proofs.Remade.{isPacket, settled-packets, words-of-packets}
+use Rattle.scan.proofs.Remade.{settled-packets, words-of-packets}
 use Rattle.plan.specs.declared.Plan.{Plan}
 use Rattle.plan.specs.Plan.{planOf}
 use Rattle.plan.specs.Refusal.{orRefusal, rowRefusal}
@@ -25,12 +26,12 @@ use Rattle.plan.proofs.Rows.{RowFits, orRefusal-first, rowRefusal-ok}
 use Rattle.region.specs.Ancillary.{ancillary, blankingOf}
 use Rattle.packet.specs.declared.Built.{Built}
 use Rattle.packet.specs.Build.{bodyOf, built, builtFor, buildRefusal, headerWord, packetOf}
-use Rattle.packet.proofs.Packets.{length-packet, packet-did, packet-marked, packet-sdid, packet-size}
+use Rattle.packet.proofs.Packets.{length-packet, packet-did, packet-marked, packet-sdid, packet-size, packet-sum-right}
 use Rattle.packet.proofs.Refusals.{room-of-built}
 use Rattle.packets.specs.Find.{findOf, found, wanted}
 use Rattle.packets.proofs.Finding.{findOf-found, found-of-ancillary, found-of-laid, orElse-first}
 use Rattle.rowlaws.specs.Lawful.{rightPacket}
-use Rattle.rowlaws.proofs.Calm.{right-packet}
+use Rattle.rowlaws.proofs.Calm.{right-packet, whole-packets}
 use Rattle.lineuses.specs.Laid.{PlaceAfter}
 use Rattle.lineuses.proofs.Checked.{row-taken}
 use Rattle.lineuses.proofs.Tens.{checksum-ten, tens-laid}
@@ -72,8 +73,10 @@ module _ (did sdid : ℕ) (user : List ℕ) where
       (words10-cons (headerWord (length user)) (user ++ sum) (header-ten (length user))
       (tens-append user sum t (words10-cons (checksumOf (bodyOf did sdid user)) [] (checksum-ten (bodyOf did sdid user)) refl))))
 
-  packet-whole : length user ≤ 255 → isPacket packet ≡ true
-  packet-whole few = rw (packet-marked did sdid user, eq-eqb _ _ (sym (packet-size did sdid user few)))
+  pub packet-right : length user ≤ 255 → rightPacket packet ≡ true
+  packet-right few =
+      let sum : eqb (checksumIn packet) (rightChecksum packet) ≡ true = not-false _ (packet-sum-right did sdid user few) in
+      rw (packet-marked did sdid user, eq-eqb _ _ (sym (packet-size did sdid user few)), sum)
 
   packet-wanted : did < 256 → sdid < 256 → wanted did sdid (Packet packet) ≡ true
   packet-wanted d s = rw (eq-eqb _ did (packet-did did sdid user d), eq-eqb _ sdid (packet-sdid did sdid user s))
@@ -102,15 +105,14 @@ module _ (code line did sdid : ℕ) (user y c : List ℕ) (packets : List (List 
         let wide : plan .places .blank + plan .places .blanks ≤ length y = omega (arith, fits .y-length, p .blank, p .sav, p .active, p .total) in
         let ps = map Packet packets in
         let z = take (plan .places .blanks - (n + length words)) (drop (n + length words) (drop (plan .places .blank) y)) in
-        let whole : any (λ p. not (isPacket p)) packets ≡ false =
-        any-weaken (λ p. not (rightPacket p)) (λ p. not (isPacket p)) (λ p e. rw (right-packet p e .0)) packets (not-true _ (placed .right)) in
         let laid-there : blankingOf plan (laid at words y) ≡ flatMap wordsOf ps ++ (words ++ z) =
         ap (λ (k : ℕ). blankingOf plan (laid k words y)) (placed .place)
         ∙ part-of-laid (plan .places .blank) (plan .places .blanks) n words y inside wide
         ∙ ap (λ (l : List ℕ). l ++ (words ++ z)) (placed .others ∙ sym (words-of-packets packets)) in
         ap (λ (l : List ℕ). found did sdid (scan l)) laid-there
-        ∙ found-of-laid did sdid ps words z (settled-packets packets whole)
-        (any-of-map (wanted did sdid) Packet packets ∙ placed .unwanted) (packet-whole did sdid user few) (packet-wanted did sdid user d s)
+        ∙ found-of-laid did sdid ps words z (settled-packets packets (whole-packets packets (placed .right)))
+        (any-of-map (wanted did sdid) Packet packets ∙ placed .unwanted)
+        (right-packet words (ap not (packet-right did sdid user few)) .0) (packet-wanted did sdid user d s)
 
     packet-found : words10 user ≡ true → findOf code line did sdid (laid at words y) c ≡ words
     packet-found t =
@@ -138,6 +140,23 @@ builtFor-none : (n : ℕ) (user : List ℕ) → (n ≡ 0 → ⊥) → builtFor n
 builtFor-none zero user bad = absurd (bad refl)
 builtFor-none (suc n) user bad = refl
 
+module _ (did sdid : ℕ) (user out : List ℕ) {made : Built} (b : made ≡ built did sdid user (length out)) where
+  pub made-number : made .refusal ≡ buildRefusal did sdid user (length out)
+  unfolding built
+  made-number = ap (λ r. r .refusal) b ∙ builtFor-number (buildRefusal did sdid user (length out)) user
+
+  -- the first words of the output are the packet
+  pub made-packet : {out-after whole : List ℕ} → out-after ≡ laidUnless (buildRefusal did sdid user (length out)) (packetOf did sdid user) out
+      → whole ≡ part 0 (made .words) out-after → buildRefusal did sdid user (length out) ≡ 0 → whole ≡ packetOf did sdid user
+  unfolding built
+  made-packet o w ok =
+      let p = packetOf did sdid user in
+      let long = length-packet did sdid user in
+      let room = room-of-built did sdid user (length out) ok in
+      let count : made .words ≡ length user + 7 = ap (λ r. r .words) b ∙ ap (λ (n : ℕ). builtFor n user .words) ok in
+      w ∙ ap₂ (part 0) count (o ∙ ap (λ (n : ℕ). laidUnless n p out) ok)
+      ∙ part-over-laid 0 (length user + 7) p out (long ∙ sym (length-take-le (length user + 7) out (room .1)))
+
 module _ (code line did sdid : ℕ) (user out y c : List ℕ) where
   abbrev refusal : ℕ
   refusal = buildRefusal did sdid user (length out)
@@ -147,12 +166,11 @@ module _ (code line did sdid : ℕ) (user out y c : List ℕ) where
   sought-refused n e bad = e ∙ sym (orRefusal-first (rowRefusal code line y c) refusal (λ z. bad (e ∙ z)))
 
   module _ {made : Built} (b : made ≡ built did sdid user (length out)) where
-    made-number : made .refusal ≡ refusal
-    unfolding built
-    made-number = ap (λ r. r .refusal) b ∙ builtFor-number refusal user
+    number : made .refusal ≡ refusal
+    number = made-number did sdid user out b
 
     pub sought-number : rowRefusal code line y c ≡ 0 → made .refusal ≡ orRefusal (rowRefusal code line y c) refusal
-    sought-number free = made-number ∙ rw free
+    sought-number free = number ∙ rw free
 
     module _
         (at : ℕ)
@@ -164,29 +182,18 @@ module _ (code line did sdid : ℕ) (user out y c : List ℕ) where
         pub sought-kept : (made .refusal ≡ 0 → ⊥) → (out-after ≡ out) × (y-after ≡ y)
         unfolding built laid
         sought-kept bad =
-            let some : refusal ≡ 0 → ⊥ = λ z. bad (made-number ∙ z) in
+            let some : refusal ≡ 0 → ⊥ = λ z. bad (number ∙ z) in
             let none : made .words ≡ 0 = ap (λ r. r .words) b ∙ builtFor-none refusal user some in
             let empty : whole ≡ [] = w ∙ ap (λ (n : ℕ). part 0 n out-after) none in
             (o ∙ unlessRefused-refused refusal _ out some, l ∙ ap (λ (ws : List ℕ). laid at ws y) empty)
-
-        -- the first words of the output are the packet
-        whole-packet : refusal ≡ 0 → whole ≡ packetOf did sdid user
-        unfolding built
-        whole-packet ok =
-            let p = packetOf did sdid user in
-            let long = length-packet did sdid user in
-            let room = room-of-built did sdid user (length out) ok in
-            let count : made .words ≡ length user + 7 = ap (λ r. r .words) b ∙ ap (λ (n : ℕ). builtFor n user .words) ok in
-            w ∙ ap₂ (part 0) count (o ∙ ap (λ (n : ℕ). laidUnless n p out) ok)
-            ∙ part-over-laid 0 (length user + 7) p out (long ∙ sym (length-take-le (length user + 7) out (room .1)))
 
         pub sought-found : {there : List ℕ} {alike : Bool} → there ≡ findOf code line did sdid y-after c → alike ≡ same there whole
             → did < 256 → sdid < 256 → rowRefusal code line y c ≡ 0 → made .refusal ≡ 0
             → (packets : List (List ℕ)) → PlaceAfter code line did sdid user y at packets → alike ≡ true
         sought-found f a d s free none packets placed =
             let p = packetOf did sdid user in
-            let ok : refusal ≡ 0 = sym made-number ∙ none in
-            let e = whole-packet ok in
+            let ok : refusal ≡ 0 = sym number ∙ none in
+            let e = made-packet did sdid user out b o w ok in
             let there-is = packet-found code line did sdid user y c packets (rowRefusal-ok code line y c free)
             (room-of-built did sdid user (length out) ok .0) d s at placed (user-tens did sdid user (length out) ok) in
             let same-there = f ∙ ap (λ (l : List ℕ). findOf code line did sdid l c) (l ∙ ap (λ (ws : List ℕ). laid at ws y) e) ∙ there-is in

@@ -1,8 +1,10 @@
 -- Laws of the folds of a step: bits after bits.
 use mathlib.Core.Path.{_≡_, refl, sym, ap, _∙_}
-use mathlib.Core.Bool.{Bool}
+use mathlib.Core.Bool.{Bool, true}
 use mathlib.Core.List.{List, [], _∷_, _++_, append-assoc}
 use Prim.Native.Nat.{ℕ}
+use Rattle.recogniser.specs.Sight.{windowAfter}
+use Rattle.recogniser.specs.Event.{looked}
 use Rattle.judging.specs.declared.Happening.{Happening}
 use Rattle.judging.specs.Happening.{happenings}
 use Rattle.stepper.specs.Step.{Run, Laying, brought, stepped, steps, traced}
@@ -24,3 +26,11 @@ module _ (lay : Laying) (code total : ℕ) where
   unfolding steps
   steps-keep P kept [] x p = p
   steps-keep P kept (b ∷ bs) x p = steps-keep P kept bs (stepped lay code total b x) (kept b x p)
+
+  -- a sync that was seen stays seen
+  seen-step : (b : Bool) (x : Run) → x .state .sight .window .seen ≡ true → stepped lay code total b x .state .sight .window .seen ≡ true
+  unfolding stepped looked windowAfter
+  seen-step b x s = rw s
+
+  pub seen-stays : (bs : List Bool) (x : Run) → x .state .sight .window .seen ≡ true → steps lay code total bs x .state .sight .window .seen ≡ true
+  seen-stays = steps-keep (λ (x : Run). x .state .sight .window .seen ≡ true) seen-step

@@ -4,12 +4,14 @@ use mathlib.Core.Bool.{Bool, false, not}
 use mathlib.Core.List.{List, [], _∷_, _++_, map, flatMap}
 use Prim.Native.Nat.{ℕ, zero, suc, _+_, _≤_, _<_}
 use native.Mathlib.Omega.{arith}
+use lib.Dec.{eqb}
 use lib.ListN.{length, take, drop, length-append}
 use borrow.Author.Tests.{le-leb, lt-leb}
 use Rattle.parts.specs.Parts.{any, laid, laidUnless, endToEnd}
+use Rattle.parts.proofs.Comparing.{any-cons}
 use Rattle.parts.proofs.Inside.{length-part}
 use Rattle.parts.proofs.Laid.{laid-of-append, unlessRefused-refused}
-use Rattle.scan.specs.Scan.{Packet, scan, packetsOf}
+use Rattle.scan.specs.Scan.{Word, Packet, scan, scanFrom, packetsOf}
 use Rattle.scan.proofs.Pieces.{AtWhole}
 use Rattle.scan.proofs.Remade.{isPacket, scan-of-settled, words-of-packets, settled-packets}
 use Rattle.plan.specs.declared.Plan.{Plan}
@@ -54,10 +56,18 @@ packets-of-laid packets z e =
     whole [] = refl
     whole (p ∷ l) = ap (λ (ws : List ℕ). p ++ ws) (whole l)
 
+-- and words of which none is 000 hold no packet
+pub packets-of-words : (ws : List ℕ) → any (λ w. eqb w 0) ws ≡ false → packetsOf (scan ws) ≡ []
+unfolding packetsOf flatMap scan scanFrom any
+packets-of-words [] e = refl
+packets-of-words (w ∷ ws) e =
+    let b = any-cons (λ v. eqb v 0) w ws e in
+    ap packetsOf (scan-of-settled (Word w ∷ []) ws (rw (b .0))) ∙ packets-of-words ws (b .1)
+
 -- ---- the packets of a channel, region after region
 
 module _ (p : Plan) (ws blanking active : List ℕ) (b : blanking ≡ blankingOf p ws) (a : active ≡ activeRegion p ws) where
-  packets-of-both : packetsOf (ancillary p ws) ≡ packetsOf (scan blanking) ++ packetsOf (scan active)
+  pub packets-of-both : packetsOf (ancillary p ws) ≡ packetsOf (scan blanking) ++ packetsOf (scan active)
   unfolding ancillary
   packets-of-both = rw (b, a) (packets-of-append (scan (blankingOf p ws)) (scan (activeRegion p ws)))
 

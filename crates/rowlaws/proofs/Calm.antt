@@ -30,6 +30,10 @@ right-packet p e =
     let l = and-true (eqb (length p) (sizeOf p)) _ (m .1) in
     (rw (m .0, l .0), l .1)
 
+pub whole-packets : (packets : List (List ℕ)) → allRight packets ≡ true → any (λ p. not (isPacket p)) packets ≡ false
+whole-packets packets e =
+    any-weaken (λ p. not (rightPacket p)) (λ p. not (isPacket p)) (λ p k. rw (right-packet p k .0)) packets (not-true _ e)
+
 troubled-unsettled : (p : Piece) → troubled p ≡ false → unsettled p ≡ false
 troubled-unsettled (Word w) e = rw e
 troubled-unsettled Marker e = e
@@ -76,6 +80,10 @@ calm-words ws e = rw (words ws) (calm-pieces (map Word ws) [] (any-of-map troubl
 pub calm-blanks : (n blank : ℕ) → (blank ≡ 0 → ⊥) → Calm (replicate n blank)
 calm-blanks n blank h = calm-words (replicate n blank) (any-of-replicate (λ w. eqb w 0) n blank (ne-eqb blank 0 h))
 
-pub calm-plain : (ws : List ℕ) → any reservedCode ws ≡ false → Calm ws
+-- 000 is a reserved code
+pub plain-no-zero : (ws : List ℕ) → any reservedCode ws ≡ false → any (λ w. eqb w 0) ws ≡ false
 unfolding reservedCode
-calm-plain ws e = calm-words ws (any-weaken reservedCode (λ w. eqb w 0) (λ w k. ne-eqb w 0 (λ z. false-not-true (sym (rw z at k)))) ws e)
+plain-no-zero ws e = any-weaken reservedCode (λ w. eqb w 0) (λ w k. ne-eqb w 0 (λ z. false-not-true (sym (rw z at k)))) ws e
+
+pub calm-plain : (ws : List ℕ) → any reservedCode ws ≡ false → Calm ws
+calm-plain ws e = calm-words ws (plain-no-zero ws e)

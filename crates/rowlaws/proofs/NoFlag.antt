@@ -1,5 +1,6 @@
--- A row that is built from words without a reserved code and from whole packets with right checksums has no flag.
-use mathlib.Core.Path.{_≡_, refl}
+-- A row that is built from words without a reserved code and from whole packets with right checksums has no flag, judged with the carry with which it
+-- was built, or with none.
+use mathlib.Core.Path.{_≡_, refl, sym, ap, _∙_}
 use mathlib.Core.Bool.{Bool, true, false, _&&_}
 use mathlib.Core.List.{List, []}
 use Prim.Native.Nat.{ℕ, _-_, _≤_}
@@ -20,7 +21,7 @@ use Rattle.stream.specs.declared.Faults.{Faults}
 use Rattle.stream.specs.Words.{yBlank, cBlank, checksOf, checkWords, coveredBy}
 use Rattle.stream.specs.Faults.{differ, faultsOf}
 use Rattle.row.specs.declared.Carry.{Carry}
-use Rattle.row.specs.Before.{carried, carryOk}
+use Rattle.row.specs.Before.{carried}
 use Rattle.row.specs.Row.{joined, flagsOf}
 use Rattle.compose.specs.Compose.{streamOf, yStream, cStream, lengthsOk}
 use Rattle.compose.proofs.Refusal.{lengths-of}
@@ -29,6 +30,10 @@ use Rattle.rowlaws.proofs.BuiltParts.{eavOf-streamOf, linesOf-streamOf,
 use Rattle.rowlaws.proofs.Calm.{Calm, calm-none, calm-packets, calm-blanks, calm-plain}
 
 -- ---- one stream
+
+-- a stream that is built with register r, or without one, is judged by that register, or by none
+abbrev OwnRegister : Bool → ℕ → Bool → ℕ → Type 0
+OwnRegister known r seen s = seen ≡ true → (known ≡ true) × (s ≡ r)
 
 abbrev pub noFaults : Faults
 noFaults = record { eav = false; sav = false; line = false; crc = false; sum = false; cut = false; reserved = false }
@@ -48,9 +53,10 @@ module _
     abbrev built : Bool → List ℕ
     built known = streamOf p known r blank active (endToEnd packets)
 
-    crc-streamOf : (known : Bool) → (known && differ (checksOf p (built known)) (checkWords p (coveredBy p r (built known)))) ≡ false
-    crc-streamOf false = refl
-    crc-streamOf true = simp (checksOf-streamOf, headOf-streamOf, same-refl)
+    crc-streamOf : (known seen : Bool) (s : ℕ) → OwnRegister known r seen s
+        → (seen && differ (checksOf p (built known)) (checkWords p (coveredBy p s (built known)))) ≡ false
+    crc-streamOf known false s own = refl
+    crc-streamOf known true s own = rw (own refl .0, own refl .1) (simp (checksOf-streamOf, headOf-streamOf, same-refl))
 
     calm-active : (v : Bool) → Calm (if v active [])
     calm-active true = calm-plain active plain
@@ -61,14 +67,14 @@ module _
     plain-picture true = refl
     plain-picture false = plain
 
-    pub faultsOf-streamOf : (known : Bool) → faultsOf p known r (built known) ≡ noFaults
+    pub faultsOf-streamOf : (known seen : Bool) (s : ℕ) → OwnRegister known r seen s → faultsOf p seen s (built known) ≡ noFaults
     unfolding faultsOf ancillary
-    faultsOf-streamOf known =
+    faultsOf-streamOf known seen s own =
         let laid = endToEnd packets in
         let calm = calm-packets packets _ right (calm-blanks (p .places .blanks - length laid) blank some) in
         let quiet = calm-active (p .v) in
         simp (
-          crc-streamOf known,
+          crc-streamOf known seen s own,
           eavOf-streamOf,
           linesOf-streamOf,
           savOf-streamOf,
@@ -85,28 +91,49 @@ module _
 
 -- ---- the row
 
-module _ (code line : ℕ) (ok : lineRefusal code line ≡ 0) (known : Bool) (r blank : ℕ) (active : List ℕ) (packets : List (List ℕ)) where
-  faultsOf-planned : lengthsOk (planOf code line) active (endToEnd packets) ≡ true → allRight packets ≡ true → any reservedCode active ≡ false
-      → (blank ≡ 0 → ⊥) → faultsOf (planOf code line) known r (streamOf (planOf code line) known r blank active (endToEnd packets)) ≡ noFaults
-  faultsOf-planned lengths right plain some =
+module _ (code line : ℕ) (ok : lineRefusal code line ≡ 0) (known seen : Bool) (r s blank : ℕ) (active : List ℕ) (packets : List (List ℕ)) where
+  faultsOf-planned : OwnRegister known r seen s → lengthsOk (planOf code line) active (endToEnd packets) ≡ true → allRight packets ≡ true
+      → any reservedCode active ≡ false → (blank ≡ 0 → ⊥)
+      → faultsOf (planOf code line) seen s (streamOf (planOf code line) known r blank active (endToEnd packets)) ≡ noFaults
+  faultsOf-planned own lengths right plain some =
       let long = lengths-of (planOf code line) active (endToEnd packets) lengths in
-      faultsOf-streamOf (planOf code line) (planOf-fits code line ok) r blank active packets (long .0) (long .1) right plain some known
+      faultsOf-streamOf (planOf code line) (planOf-fits code line ok) r blank active packets (long .0) (long .1) right plain some known seen s own
 
-pub built-no-flag : (code line : ℕ) (carry : Carry) (yActive cActive : List ℕ) (yPackets cPackets : List (List ℕ))
-    → lineRefusal code line ≡ 0
-    → carryOk carry ≡ true
-    → lengthsOk (planOf code line) yActive (endToEnd yPackets) ≡ true
-    → lengthsOk (planOf code line) cActive (endToEnd cPackets) ≡ true
-    → allRight yPackets ≡ true
-    → allRight cPackets ≡ true
-    → any reservedCode yActive ≡ false
-    → any reservedCode cActive ≡ false
-    → flagsOf (planOf code line) carry (yStream (planOf code line) carry yActive (endToEnd yPackets))
-    (cStream (planOf code line) carry cActive (endToEnd cPackets))
-    ≡ 0
-unfolding flagsOf joined number
-built-no-flag code line carry yActive cActive yPackets cPackets ok _ yLengths cLengths yRight cRight yPlain cPlain =
-    rw (
-      faultsOf-planned code line ok (carried carry .known) (carried carry .y) yBlank yActive yPackets yLengths yRight yPlain (λ e. omega arith),
-      faultsOf-planned code line ok (carried carry .known) (carried carry .c) cBlank cActive cPackets cLengths cRight cPlain (λ e. omega arith),
-    )
+-- a row that is built with this carry is judged with it, or with none
+abbrev pub OwnOrNone : Carry → Carry → Type 0
+OwnOrNone carry seen = carried seen .known ≡ true → seen ≡ carry
+
+module _
+    (code line : ℕ)
+    (carry : Carry)
+    (yActive cActive : List ℕ)
+    (yPackets cPackets : List (List ℕ))
+    (ok : lineRefusal code line ≡ 0)
+    (yLengths : lengthsOk (planOf code line) yActive (endToEnd yPackets) ≡ true)
+    (cLengths : lengthsOk (planOf code line) cActive (endToEnd cPackets) ≡ true)
+    (yRight : allRight yPackets ≡ true)
+    (cRight : allRight cPackets ≡ true)
+    (yPlain : any reservedCode yActive ≡ false)
+    (cPlain : any reservedCode cActive ≡ false)
+  where
+    -- its flags where it is judged with this carry
+    abbrev flagsWith : Carry → ℕ
+    flagsWith seen =
+        let p = planOf code line in
+        flagsOf p seen (yStream p carry yActive (endToEnd yPackets)) (cStream p carry cActive (endToEnd cPackets))
+
+    pub judged-no-flag : (seen : Carry) → OwnOrNone carry seen → flagsWith seen ≡ 0
+    unfolding flagsOf joined number
+    judged-no-flag seen own =
+        let b = carried carry in
+        let j = carried seen in
+        let known : j .known ≡ true → b .known ≡ true = λ e. sym (ap (λ (q : Carry). carried q .known) (own e)) ∙ e in
+        rw (
+          faultsOf-planned code line ok (b .known) (j .known) (b .y) (j .y) yBlank yActive yPackets
+              (λ e. (known e, ap (λ (q : Carry). carried q .y) (own e))) yLengths yRight yPlain (λ e. omega arith),
+          faultsOf-planned code line ok (b .known) (j .known) (b .c) (j .c) cBlank cActive cPackets
+              (λ e. (known e, ap (λ (q : Carry). carried q .c) (own e))) cLengths cRight cPlain (λ e. omega arith),
+        )
+
+    pub built-no-flag : flagsWith carry ≡ 0
+    built-no-flag = judged-no-flag carry (λ e. refl)

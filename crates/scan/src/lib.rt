@@ -1,6 +1,5 @@
 // The scan of one region for ancillary packets.
 ghost use mathlib.Core.Path.{_≡_};
-ghost use mathlib.Core.Bool.{_||_};
 ghost use lib.ListN.{drop};
 ghost use Rattle.scan.specs.Packet.{checksumOf, marked};
 ghost use Rattle.scan.specs.Scan.{pieceAt, scan, scanned, hereOf};
@@ -96,8 +95,8 @@ pub fn scan(region: &[u16]) -> Scanned
             continue 'scan;
         }
         let right = bits::nine(sum);
-        wrong = either(wrong, region[i + last] != right);
-        unfit = either(unfit, bits::reserved(right));
+        wrong = wrong | (region[i + last] != right);
+        unfit = unfit | bits::reserved(right);
         words += last + 1;
         i += last + 1;
     }
@@ -107,14 +106,4 @@ pub fn scan(region: &[u16]) -> Scanned
         wrong,
         unfit,
     }
-}
-
-// Whether one of two holds.
-fn either(first: bool, second: bool) -> bool
-    ensures { λ r. ⌜ r ≡ (first || second) ⌝ }
-{
-    if first {
-        return true;
-    }
-    second
 }

@@ -25,9 +25,9 @@ use Rattle.stepper.specs.Step.{traced}
 use Rattle.tally.specs.Tally.{isFault}
 use Rattle.stepper.proofs.Stepping.{steps-of-append}
 use Rattle.module.specs.Module.{listed, begunRun, afterBits}
+use Rattle.module.proofs.Folds.{seen-stays}
 use Rattle.struck.specs.Struck.{happeningsAfter}
 use Rattle.struck.proofs.Nones.{isDropped, None, none-dropped, no-flags, none-of-parts}
-use Rattle.struck.proofs.NoFault.{seen-stays}
 use Rattle.struck.proofs.Rows.{bitsAt}
 use Rattle.struck.proofs.Second.{rowLine}
 use Rattle.struck.proofs.Lines.{line-right, line-same}

@@ -1,4 +1,4 @@
--- A module whose faults are none at its end: nothing that happened was a fault; and a sync seen stays seen.
+-- A module whose faults are none at its end: nothing that happened was a fault.
 use mathlib.Core.Path.{_≡_, refl, sym, ap, _∙_}
 use mathlib.Core.Bool.{Bool, true, false}
 use mathlib.Core.List.{List, [], _∷_}
@@ -8,13 +8,10 @@ use lib.Dec.{ltb}
 use borrow.Author.Tests.{ltb-false}
 use Rattle.bits.specs.Choice.{if}
 use Rattle.parts.specs.Parts.{any}
-use Rattle.recogniser.specs.Sight.{windowAfter}
-use Rattle.recogniser.specs.Event.{looked}
 use Rattle.judging.specs.declared.Happening.{Happening}
 use Rattle.tally.specs.declared.Counts.{Counts}
-use Rattle.stepper.specs.Step.{Run, stepped, steps, traced, Laying}
+use Rattle.stepper.specs.Step.{Run, steps, traced, Laying}
 use Rattle.tally.specs.Tally.{isFault, ceiling, raised, counted, tallied}
-use Rattle.module.proofs.Folds.{steps-keep}
 use Rattle.module.proofs.Tallies.{counts-of-happenings}
 use Rattle.struck.proofs.Nones.{None}
 
@@ -41,12 +38,3 @@ module _ (lay : Laying) (code total : ℕ) where
   faults-none bs x e =
       tallied-none (traced lay code total bs x) (x .state .counts)
       (sym (ap (λ (n : Counts). n .faults) (counts-of-happenings lay code total bs x)) ∙ e) .0
-
-  -- ---- seen
-
-  seen-step : (b : Bool) (x : Run) → x .state .sight .window .seen ≡ true → stepped lay code total b x .state .sight .window .seen ≡ true
-  unfolding stepped looked windowAfter
-  seen-step b x s = rw s
-
-  pub seen-stays : (bs : List Bool) (x : Run) → x .state .sight .window .seen ≡ true → steps lay code total bs x .state .sight .window .seen ≡ true
-  seen-stays = steps-keep lay code total (λ (x : Run). x .state .sight .window .seen ≡ true) seen-step

@@ -148,23 +148,17 @@ scan-again-4 c =
 nine-requires : tie.Need-nine-requires Inv-loop μ-loop Inv-scan μ-scan
 nine-requires c κs = search needs
 
-add-either : tie.Need-add-either Inv-loop μ-loop Inv-scan μ-scan
-add-either c = search needs
+add-wrong : tie.Need-add-wrong Inv-loop μ-loop Inv-scan μ-scan
+add-wrong c = search needs
 
-mul-either : tie.Need-mul-either Inv-loop μ-loop Inv-scan μ-scan
-mul-either c = search needs
+mul-wrong : tie.Need-mul-wrong Inv-loop μ-loop Inv-scan μ-scan
+mul-wrong c = search needs
 
-shared-slice-read-either : tie.Need-shared-slice-read-either Inv-loop μ-loop Inv-scan μ-scan
-shared-slice-read-either c = search needs
-
-either-requires : tie.Need-either-requires Inv-loop μ-loop Inv-scan μ-scan
-either-requires c κs = search needs
+shared-slice-read-wrong : tie.Need-shared-slice-read-wrong Inv-loop μ-loop Inv-scan μ-scan
+shared-slice-read-wrong c = search needs
 
 reserved-requires : tie.Need-reserved-requires Inv-loop μ-loop Inv-scan μ-scan
 reserved-requires c κs = search needs
-
-either-requires-2 : tie.Need-either-requires-2 Inv-loop μ-loop Inv-scan μ-scan
-either-requires-2 c κs = search needs
 
 add-words : tie.Need-add-words Inv-loop μ-loop Inv-scan μ-scan
 add-words c = search needs
@@ -183,21 +177,21 @@ scan-less-5 c = search needs
 
 scan-again-5 : tie.Need-scan-again-5 Inv-loop μ-loop Inv-scan μ-scan
 scan-again-5 c =
-    let s = c .before .before .before .before .before .before .before .before .before .before .before .before .before .scan in
-    let r = c .before .before .before .before .before .before .before .before .before .before .before .before .before .before .before .args .region .now in
-    let marked = sym (c .before .before .before .before .before .before .before .before .before .before .before .marked-at .ensures) ∙ not-false _ (c .before .before .before .before .before .before .before .before .before .before .if1 .left) in
+    let s = c .before .before .before .before .before .before .before .before .before .before .before .scan in
+    let r = c .before .before .before .before .before .before .before .before .before .before .before .before .before .args .region .now in
+    let marked = sym (c .before .before .before .before .before .before .before .before .before .marked-at .ensures) ∙ not-false _ (c .before .before .before .before .before .before .before .before .if1 .left) in
     let i = s .i in
-    let w = c .before .before .before .before .before .before .before .loop in
+    let w = c .before .before .before .before .before .loop in
     let last : ℕ = getD r (i + 5) 0 % 256 + 6 in
     let size : getD r (i + 5) 0 % 256 + 7 ≡ last + 1 = omega arith in
-    let whole : hereOf (pieceAt (drop i r)) ≡ Whole (last + 1) = hereOf-whole r i marked (omega (arith, c .before .before .before .before .before .if4 .left)) ∙ ap Whole size in
-    let done : length (take last (drop i r)) ≤ w .j = simp length-take (omega (arith, c .before .before .before .before .before .before .loop-test .left)) in
+    let whole : hereOf (pieceAt (drop i r)) ≡ Whole (last + 1) = hereOf-whole r i marked (omega (arith, c .before .before .before .if4 .left)) ∙ ap Whole size in
+    let done : length (take last (drop i r)) ≤ w .j = simp length-take (omega (arith, c .before .before .before .before .loop-test .left)) in
     let sum = sym (mod-eq-of-lt (w .inv .2)) ∙ sym (sum-end (w .sum) (w .j) (take last (drop i r)) done) ∙ w .inv .3 in (
       omega arith,
       omega arith,
       s .inv .2
-          ∙ scanned-whole r i (c .before .before .before .before .before .before .before .before .before .before .before .before .scan-test .taken) (s .words) (s .cut) (s .wrong) (s .unfit) last (w .sum) whole sum
-          ∙ rw (c .either2 .ensures, c .before .reserved .ensures, c .before .before .either .ensures, c .before .before .before .before .nine .ensures, w .inv .0, w .inv .1),
+          ∙ scanned-whole r i (c .before .before .before .before .before .before .before .before .before .before .scan-test .taken) (s .words) (s .cut) (s .wrong) (s .unfit) last (w .sum) whole sum
+          ∙ rw (c .reserved .ensures, c .before .before .nine .ensures, w .inv .0, w .inv .1),
     )
 
 returns : tie.Need-returns Inv-loop μ-loop Inv-scan μ-scan
@@ -244,12 +238,10 @@ scan-spec =
     scan-less-4
     scan-again-4
     nine-requires
-    add-either
-    mul-either
-    shared-slice-read-either
-    either-requires
+    add-wrong
+    mul-wrong
+    shared-slice-read-wrong
     reserved-requires
-    either-requires-2
     add-words
     add-words-2
     add-i-5

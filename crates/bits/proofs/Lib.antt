@@ -6,3 +6,4 @@ pub mod Xor
 pub mod Ones
 pub mod Words
 pub mod Below
+pub mod Each

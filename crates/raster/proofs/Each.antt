@@ -1,4 +1,4 @@
--- A test at every entry of a list, computed once.
+-- A test at every entry of two lists side by side, of one length, computed once.
 use mathlib.Core.Bool.{Bool, true, false, _&&_}
 use mathlib.Core.List.{List, [], _∷_}
 use Prim.Native.Nat.{ℕ, zero, suc, _<_}
@@ -7,17 +7,6 @@ use lib.Dec.{T}
 use lib.ListN.{length, getD}
 use Rattle.bits.proofs.Below.{both-left, both-right}
 
-abbrev pub each : {A : Type 0} → (A → Bool) → List A → Bool
-each f [] = true
-each f (x ∷ xs) = f x && each f xs
-
--- what passes at every entry of a list passes at each place below its length
-pub each-at : {A : Type 0} (f : A → Bool) (xs : List A) (d : A) → T (each f xs) → (k : ℕ) → k < length xs → T (f (getD xs k d))
-each-at f [] d t k h = absurd (not-suc-le-zero h)
-each-at f (x ∷ xs) d t zero h = both-left (f x) (each f xs) t
-each-at f (x ∷ xs) d t (suc k) h = each-at f xs d (both-right (f x) (each f xs) t) k (le-of-suc-le-suc h)
-
--- the same of two lists side by side, of one length
 abbrev pub each2 : {A B : Type 0} → (A → B → Bool) → List A → List B → Bool
 each2 f [] [] = true
 each2 f [] (y ∷ ys) = false

@@ -12,7 +12,7 @@ use Rattle.raster.specs.declared.Kind.the-variants.{Progressive}
 use Rattle.raster.specs.Table.{table, rasterOk, entryOf}
 use Rattle.raster.specs.Lines.{between, vOf, fOf, lineOk, lineRefusal, factsFor, lineFacts}
 use Rattle.bits.proofs.Choice.{and-true, if-zero}
-use Rattle.raster.proofs.Each.{each}
+use Rattle.bits.proofs.Each.{each}
 use Rattle.raster.proofs.Table.{entry-all, raster-range}
 
 -- ---- between

@@ -6,11 +6,12 @@ use Prim.Native.Nat.{ℕ, _+_, _-_}
 use native.Mathlib.Omega.{arith}
 use lib.Dec.{T, eqb, eqb→eq}
 use lib.ListN.{getD}
+use Rattle.bits.proofs.Each.{each}
 use Rattle.raster.specs.declared.Entry.{Entry}
 use Rattle.raster.specs.declared.Layout.{Layout}
 use Rattle.raster.specs.Layout.{blanks, hd}
 use Rattle.raster.specs.Table.{table, noEntry, meant, entryOf, rasterOk, lookedUp}
-use Rattle.raster.proofs.Each.{each, each2, each2-at}
+use Rattle.raster.proofs.Each.{each2, each2-at}
 use Rattle.raster.proofs.Table.{meant-range, entry-all, lookedUp-found}
 
 -- the parts of a row, one after the other: EAV, line number, CRC, blanking, SAV, active words

@@ -10,13 +10,13 @@ use lib.Seq.{drop-cons}
 use borrow.Author.Tests.{leb-true, le-leb, eqb-true, eqb-false}
 use Rattle.bits.specs.Choice.{if}
 use Rattle.bits.proofs.Below.{below}
+use Rattle.bits.proofs.Each.{each, each-at}
 use Rattle.raster.specs.declared.Entry.{Entry}
 use Rattle.raster.specs.declared.Kind.{Kind}
 use Rattle.raster.specs.declared.Kind.the-variants.{Progressive, TwoFields}
 use Rattle.raster.specs.declared.Raster.{Raster}
 use Rattle.raster.specs.Table.{table, noEntry, meant, entryOf, rasterOk, rasterAt, noRaster, lookedUp, sameKind, fits, nameFrom, nameOf}
 use Rattle.bits.proofs.Choice.{false-not-true, and-true, if-zero}
-use Rattle.raster.proofs.Each.{each, each-at}
 
 -- ---- meant
 

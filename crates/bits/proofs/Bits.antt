@@ -169,19 +169,10 @@ length-xors [] (y ∷ n) e = absurd (omega arith)
 length-xors (x ∷ m) [] e = refl
 length-xors (x ∷ m) (y ∷ n) e = ap suc (length-xors m n (omega arith))
 
--- ---- a comparison of two low bits
-
-pub odd-same : (a b : ℕ) → a % 2 ≡ b % 2 → odd a ⊕ odd b ≡ false
-unfolding odd
-odd-same a b e = rw e (⊕-self (eqb (b % 2) 1))
-
-pub odd-other : (a b : ℕ) → (a % 2 ≡ b % 2 → ⊥) → odd a ⊕ odd b ≡ true
-unfolding odd
-odd-other a b =
-    below-two (λ (m : ℕ). (m ≡ b % 2 → ⊥) → eqb m 1 ⊕ eqb (b % 2) 1 ≡ true)
-    (below-two (λ (n : ℕ). (0 ≡ n → ⊥) → eqb n 1 ≡ true) (λ h. absurd (h refl)) (λ h. refl) (b % 2) (omega arith))
-    (below-two (λ (n : ℕ). (1 ≡ n → ⊥) → not (eqb n 1) ≡ true) (λ h. refl) (λ h. absurd (h refl)) (b % 2) (omega arith))
-    (a % 2) (omega arith)
+pub xors-self : (bs : List Bool) → xors bs bs ≡ bits (length bs) 0
+unfolding xors bits odd
+xors-self [] = refl
+xors-self (b ∷ bs) = ap₂ (λ (x : Bool) (l : List Bool). x ∷ l) (⊕-self b) (xors-self bs)
 
 -- ---- wordBits
 

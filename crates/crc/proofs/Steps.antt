@@ -2,23 +2,14 @@
 use mathlib.Core.Path.{_≡_, refl, _∙_, sym}
 use mathlib.Core.Bool.{Bool}
 use mathlib.Core.List.{List, [], _∷_, _++_}
-use Prim.Native.Nat.{ℕ, suc, _+_, _-_, _/_, _≤_, _<_}
-use native.Mathlib.Omega.{arith}
+use Prim.Native.Nat.{ℕ, _+_, _<_}
 use native.Mathlib.Numerals.{add-one}
 use lib.ListN.{length, getD, drop}
 use lib.Seq.{drop-cons, drop-length}
-use Rattle.bits.specs.Bits.{odd, bits, wordBits}
+use Rattle.bits.specs.Bits.{bits, wordBits}
 use Rattle.crc.specs.Crc.{crcBit, crcBits, crcWord, crcWords}
 
--- ---- a turn of each loop, and its end
-
-pub crcWord-step : (r w i : ℕ) → i < 10 → crcBits r (bits (10 - i) w) ≡ crcBits (crcBit r (odd w)) (bits (10 - (i + 1)) (w / 2))
-unfolding crcBits bits
-crcWord-step r w i h = let e : 10 - i ≡ suc (10 - (i + 1)) = omega arith in rw e
-
-pub crcWord-end : (r w i : ℕ) → 10 ≤ i → crcBits r (bits (10 - i) w) ≡ r
-unfolding crcBits bits
-crcWord-end r w i h = let e : 10 - i ≡ 0 = omega arith in rw e
+-- ---- a turn of the loop over words, and its end
 
 pub crcWords-step : (r i : ℕ) (ws : List ℕ) → i < length ws → crcWords r (drop i ws) ≡ crcWords (crcWord r (getD ws i 0)) (drop (i + 1) ws)
 unfolding crcWords

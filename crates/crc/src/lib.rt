@@ -1,7 +1,9 @@
 // The CRC of a channel: the register's steps, and its two words.
+pub mod sheet;
+
 ghost use mathlib.Core.Path.{_≡_};
-ghost use Rattle.bits.specs.Bits.{odd};
-ghost use Rattle.crc.specs.Crc.{crcBit, crcWord, crcWords, ran, crWords};
+ghost use Rattle.crc.specs.Crc.{crcWord, crcWords, ran, crWords};
+use sheet::STEPS;
 
 // The highest register: eighteen ones.
 pub const REGISTER_TOP: u32 = 0x3ffff;
@@ -17,38 +19,23 @@ pub struct CrcWords {
     pub cr1: u16,
 }
 
-// The register after bit 0 of `w`.
-fn step_bit(register: u32, w: u16) -> u32
-    ensures { λ r. ⌜ r ≡ crcBit register (odd w) ⌝ }
-{
-    if register % 2 == (w % 2) as u32 {
-        register / 2
-    } else {
-        (register / 2) ^ 0x23000
-    }
-}
-
-// The register after the ten bits of a word.
+// The register after the ten bits of a word: a run of one.
 pub fn step_word(register: u32, word: u16) -> u32
     ensures { λ r. ⌜ r ≡ crcWord register word ⌝ }
 {
-    let mut r = register;
-    let mut w = word;
-    for i in 0..10u32 {
-        r = step_bit(r, w);
-        w = w / 2;
-    }
-    r
+    step_words(register, &[word])
 }
 
-// The register after words, whatever they are.
+// The register after words, whatever they are. The compiler lays the sheet out anew in each call, so the loop stands where the sheet is named.
 pub fn step_words(register: u32, words: &[u16]) -> u32
     ensures { λ r. ⌜ r ≡ crcWords register (now (words .entry)) ⌝ }
 {
+    let steps = STEPS;
     let mut r = register;
     let mut i = 0;
     while i < words.len() {
-        r = step_word(r, words[i]);
+        let index = (r ^ words[i] as u32) % 1024;
+        r = steps[index as usize] ^ (r / 1024);
         i += 1;
     }
     r

@@ -1,33 +1,36 @@
 -- Laws of words10, reservedCode and nineOf.
 use mathlib.Core.Path.{_≡_, refl, _∙_}
-use mathlib.Core.Bool.{Bool, true, false}
+use mathlib.Core.Bool.{Bool, true, false, _&&_, and-true}
 use mathlib.Core.List.{List, [], _∷_, _++_}
 use Prim.Native.Nat.{ℕ, zero, suc, _+_, _/_, _%_, _≤_, _<_}
 use native.Mathlib.Omega.{arith}
 use native.Mathlib.Numerals.{add-one}
-use lib.Dec.{leb}
+use native.Mathlib.Decide.{decLe}
+use lib.Dec.{leb, ltb}
 use lib.ListN.{length, getD, take, drop, set, replicate}
 use lib.Seq.{drop-cons, drop-length}
-use borrow.Author.Tests.{le-leb, lt-leb, leb-true}
+use borrow.Author.Tests.{lt-ltb, le-ltb, le-leb, lt-leb, leb-true}
 use Rattle.bits.specs.Choice.{if}
 use Rattle.bits.specs.Bits.{odd, digit}
 use Rattle.bits.specs.Words.{words10, reservedCode, nineOf}
 use Rattle.bits.proofs.Choice.{if-true}
 use Rattle.bits.proofs.Bits.{digit-odd}
 
--- ---- words10: a turn of a loop, its stop and its end
+-- ---- words10: a step of a loop that looks at every word, and its end
 
-pub words10-step : (i : ℕ) (ws : List ℕ) → i < length ws → getD ws i 0 ≤ 0x3ff → words10 (drop i ws) ≡ words10 (drop (i + 1) ws)
+pub words10-step : (all : Bool) (i : ℕ) (ws : List ℕ) → i < length ws
+    → (all && leb (getD ws i 0) 0x3ff && words10 (drop (i + 1) ws)) ≡ (all && words10 (drop i ws))
 unfolding words10
-words10-step i ws h k = rw (add-one, drop-cons ws i 0, le-leb (getD ws i 0) 0x3ff k)
+words10-step all i ws h = rw (add-one, drop-cons ws i 0) (go all (leb (getD ws i 0) 0x3ff) (words10 (drop (suc i) ws)))
+  where
+    go : (a b c : Bool) → (a && b && c) ≡ (a && if b c false)
+    go true true c = refl
+    go true false c = refl
+    go false b c = refl
 
-pub words10-stop : (i : ℕ) (ws : List ℕ) → i < length ws → 0x3ff < getD ws i 0 → words10 (drop i ws) ≡ false
+pub words10-end : (all : Bool) (i : ℕ) (ws : List ℕ) → i ≡ length ws → (all && words10 (drop i ws)) ≡ all
 unfolding words10
-words10-stop i ws h k = rw (drop-cons ws i 0, lt-leb (getD ws i 0) 0x3ff k)
-
-pub words10-end : (i : ℕ) (ws : List ℕ) → i ≡ length ws → words10 (drop i ws) ≡ true
-unfolding words10
-words10-end i ws e = rw (e, drop-length)
+words10-end all i ws e = rw (e, drop-length, and-true)
 
 pub words10-nil : (ws : List ℕ) → ws ≡ [] → words10 ws ≡ true
 unfolding words10
@@ -86,6 +89,27 @@ pub tens-blanks : (n blank : ℕ) → blank ≤ 0x3ff → words10 (replicate n b
 unfolding words10
 tens-blanks zero blank h = refl
 tens-blanks (suc n) blank h = words10-cons blank (replicate n blank) h (tens-blanks n blank h)
+
+-- ---- reservedCode: of the low ten bits, by one comparison; a word is one only where these are
+
+pub reserved-low : (w : ℕ) → ltb ((w % 1024 + 4) % 1024) 8 ≡ reservedCode (w % 1024)
+unfolding reservedCode
+reserved-low w = go (w % 1024) (omega arith) (decLe (w % 1024) 0x003) (decLe 0x3fc (w % 1024))
+  where
+    go : (v : ℕ) → v < 1024 → Dec (v ≤ 0x003) → Dec (0x3fc ≤ v) → ltb ((v + 4) % 1024) 8 ≡ reservedCode v
+    go v h (yes low) high = rw (lt-ltb ((v + 4) % 1024) 8 (omega arith), le-leb v 0x003 low)
+    go v h (no low) (yes high) =
+        rw (lt-ltb ((v + 4) % 1024) 8 (omega arith), lt-leb v 0x003 (omega arith), le-leb 0x3fc v high, le-leb v 0x3ff (omega arith))
+    go v h (no low) (no high) =
+        rw (le-ltb ((v + 4) % 1024) 8 (omega arith), lt-leb v 0x003 (omega arith), lt-leb 0x3fc v (omega arith))
+
+pub reserved-of-low : (w : ℕ) → reservedCode (w % 1024) ≡ false → reservedCode w ≡ false
+unfolding reservedCode
+reserved-of-low w e = go (decLe w 0x3ff)
+  where
+    go : Dec (w ≤ 0x3ff) → reservedCode w ≡ false
+    go (yes h) = let small : w % 1024 ≡ w = omega arith in rw small at e
+    go (no h) = rw (lt-leb w 0x003 (omega arith), le-leb 0x3fc w (omega arith)) (lt-leb w 0x3ff (omega arith))
 
 -- ---- nineOf: range, inverse, never reserved
 

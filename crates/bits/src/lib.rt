@@ -3,18 +3,17 @@ ghost use mathlib.Core.Path.{_≡_};
 ghost use lib.ListN.{set};
 ghost use Rattle.bits.specs.Words.{words10, reservedCode, nineOf};
 
-// Whether every word is at most 3FF.
+// Whether every word is at most 3FF. There is no early return, so that many words are compared at once.
 pub fn all_words(words: &[u16]) -> bool
     ensures { λ r. ⌜ r ≡ words10 (now (words .entry)) ⌝ }
 {
+    let mut all = true;
     let mut i = 0;
     while i < words.len() {
-        if words[i] > 0x3ff {
-            return false;
-        }
+        all = all & (words[i] <= 0x3ff);
         i += 1;
     }
-    true
+    all
 }
 
 // Whether a word is a reserved code.

@@ -4,42 +4,52 @@ use mathlib.Core.Bool.{Bool, false}
 use mathlib.Core.List.{List, _++_}
 use Prim.Native.Nat.{ℕ, _+_, _*_, _/_, _%_, _^_, _<_}
 use native.Mathlib.Omega.{arith}
-use lib.ListN.{length, take, drop, replicate}
+use lib.ListN.{length, take, drop, replicate, length-drop}
 use lib.Bits.{bitXor}
 use Rattle.bits.specs.Bits.{digit, odd, bits, number, xors}
-use Rattle.bits.proofs.Bits.{bits-number, number-lt, odd-digit, half-digit, number-bits, number-shr, number-mod, number-append, number-shl, number-join, number-xors, ⊕-false, ⊕-assoc}
+use Rattle.bits.proofs.Bits.{bits-number, number-lt, odd-digit, half-digit, number-bits, length-bits, number-shr, number-mod, number-append, number-shl, number-join, number-xors, ⊕-false, ⊕-assoc}
 use Rattle.cable.specs.Bits.{ago, scrambler, descrambler, nrzi, unnrzi, levels, scrambled, unscrambled, past}
 use Rattle.cable.specs.Words.{unscrambleWord, scrambleWord}
 
 -- ---- unscrambling
 
-joined : (h w : ℕ) → h % 1024 + w % 1024 * 1024 ≡ number (bits 10 h ++ bits 10 w)
-unfolding bits
-joined h w = ap₂ (λ (x y : ℕ). x + y * 1024) (sym (number-bits 10 h)) (sym (number-bits 10 w)) ∙ sym (number-append (bits 10 h) (bits 10 w))
+-- ten bits of a history and the word after it, from a bit of the history on
+later : (k j h w : ℕ) → k + j ≡ 10 → h % 1024 / 2 ^ k + w % 1024 % 2 ^ k * 2 ^ j ≡ number (drop k (bits 10 h) ++ take k (bits 10 w))
+later k j h w e =
+    ap₂ (λ (x y : ℕ). x / 2 ^ k + y % 2 ^ k * 2 ^ j) (sym (number-bits 10 h)) (sym (number-bits 10 w))
+    ∙ ap₂ (λ (x y : ℕ). x + y * 2 ^ j) (number-shr k (bits 10 h)) (number-mod k (bits 10 w))
+    ∙ number-join j (drop k (bits 10 h)) (take k (bits 10 w)) (omega (arith, length-drop k (bits 10 h), length-bits 10 h))
 
--- the code's expressions, on numbers and on lists
-abbrev codeLevels : ℕ → ℕ
-codeLevels x = bitXor (x / 2) x
+-- the code's expression, on lists
+abbrev listLater : ℕ → ℕ → ℕ → List Bool
+listLater k h w = drop k (bits 10 h) ++ take k (bits 10 w)
 
-abbrev codeData : ℕ → ℕ
-codeData s = bitXor (bitXor (s / 512) (s / 16)) s % 1024
-
-abbrev listLevels : List Bool → List Bool
-listLevels x = xors (drop 1 x) x
-
-abbrev listData : List Bool → List Bool
-listData s = take 10 (xors (xors (drop 9 s) (drop 4 s)) s)
+abbrev listData : ℕ → ℕ → List Bool
+listData h w = xors (xors (xors (bits 10 w) (listLater 9 h w)) (xors (listLater 5 h w) (listLater 4 h w))) (xors (listLater 1 h w) (bits 10 h))
 
 -- the lists compute to the same ten bits
-unscramble-lists : (h w : ℕ) → listData (listLevels (bits 10 h ++ bits 10 w)) ≡ unscrambled (past h) (bits 10 w)
+unscramble-lists : (h w : ℕ) → listData h w ≡ unscrambled (past h) (bits 10 w)
 unfolding bits xors unscrambled past descrambler unnrzi levels
 unscramble-lists h w = refl
 
-pub unscramble-code : (h w : ℕ) → codeData (codeLevels (h % 1024 + w % 1024 * 1024)) ≡ unscrambleWord h w
+pub unscramble-code : (h w : ℕ)
+    → bitXor
+    (bitXor (bitXor (w % 1024) (h % 1024 / 512 + w % 1024 % 512 * 2))
+    (bitXor (h % 1024 / 32 + w % 1024 % 32 * 32) (h % 1024 / 16 + w % 1024 % 16 * 64)))
+    (bitXor (h % 1024 / 2 + w % 1024 % 2 * 512) (h % 1024))
+    ≡ unscrambleWord h w
 unfolding unscrambleWord
-unscramble-code h w = simp (joined h w, number-shr 1, number-shr 9, number-shr 4, number-xors, number-mod 10) (ap number (unscramble-lists h w))
+unscramble-code h w =
+    rw (later 9 1 h w refl, later 5 5 h w refl, later 4 6 h w refl, later 1 9 h w refl, ← number-bits 10 h, ← number-bits 10 w)
+    (simp (number-xors) (ap number (unscramble-lists h w)))
 
 -- ---- scrambling, five bits at a time
+
+abbrev codeLevels : ℕ → ℕ
+codeLevels x = bitXor (x / 2) x
+
+abbrev listLevels : List Bool → List Bool
+listLevels x = xors (drop 1 x) x
 
 abbrev codeLow : ℕ → ℕ → ℕ
 codeLow s d = bitXor (bitXor d (s / 16)) s % 32

@@ -13,14 +13,18 @@ pub struct Coded {
     pub history: u16,
 }
 
-// Ten data bits from ten cable bits after a history.
+// Ten data bits from ten cable bits after a history: the twenty bits one, four, five, nine and ten later than those of the history. All fits
+// sixteen bits, so that a loop over words takes many at once.
 pub fn unscramble_word(history: u16, word: u16) -> u16
     ensures { λ r. ⌜ r ≡ unscrambleWord history word ⌝ }
 {
-    let x = (history % 1024) as u32 + (word % 1024) as u32 * 1024;
-    let s = (x / 2) ^ x;
-    let d = (s / 512) ^ (s / 16) ^ s;
-    (d % 1024) as u16
+    let h = history % 1024;
+    let w = word % 1024;
+    let one = h / 2 + w % 2 * 512;
+    let four = h / 16 + w % 16 * 64;
+    let five = h / 32 + w % 32 * 32;
+    let nine = h / 512 + w % 512 * 2;
+    (w ^ nine) ^ (five ^ four) ^ (one ^ h)
 }
 
 // The scrambled bits of ten data bits, five at a time: the first five look back into the history alone, the others into those.

@@ -1,4 +1,4 @@
-// Answers to requests of bench files (docs/REQUESTS.md), 80 to 83. Proved safe, no more.
+// Answers to requests of bench files (docs/REQUESTS.md), 80 to 84. Proved safe, no more.
 ghost use Prim.Native.Nat.{_≤_};
 ghost use lib.ListN.{length};
 use answers::arg;
@@ -11,6 +11,8 @@ use jobs::Job;
 use jobs::Kind;
 use jobs::Outcome;
 use jobs::Taken;
+use lists::elements;
+use lists::take_words;
 use reader::Count;
 use reader::Options;
 use reader::Piece;
@@ -33,6 +35,7 @@ pub fn answer(args: &[u32]) {
         0x80 => reads(args),
         0x81 => bytes(args, arg(args, 1) as usize % 65536 + 2),
         0x82 => bytes(args, arg(args, 6) as usize % 65536 + 22),
+        0x84 => words_at_once(args, arg(args, 6) as usize % 65536 + 7),
         _ => line(args),
     }
     lists::end_line();
@@ -108,6 +111,43 @@ fn with_rows(args: &[u32], at: usize, bytes: &[u8]) {
     let n = taken.count;
     let m = take_runs(args, taken.next, &mut c).count;
     takes(args, bytes, &mut y[0..n], &mut c[0..m]);
+}
+
+// Words read at once from the bytes at this place, over the output after them.
+fn words_at_once(args: &[u32], at: usize) {
+    let mut bytes = [0u8; 20000];
+    let count = take_bytes(args, at, &mut bytes);
+    with_output(args, at % 65536 + 1 + count % 65536, &bytes[0..count]);
+}
+
+fn with_output(args: &[u32], at: usize, bytes: &[u8]) {
+    let mut words = [0u16; 20000];
+    let n = take_words(args, at, &mut words);
+    read_words(reader_of(args), bytes, &mut words[0..n]);
+}
+
+fn read_words(reader: Reader, bytes: &[u8], words: &mut [u16]) {
+    let run = reader.read_words(bytes, words);
+    first(run.words as u64);
+    then_reader(run.reader);
+    then(words.len() as u64);
+    elements(words);
+}
+
+// A word's low byte is told while its high byte is to come.
+fn then_reader(reader: Reader) {
+    let stage = reader.stage;
+    let number = stage_number(stage);
+    then(number);
+    then(reader.count.left as u64);
+    if number == 7 {
+        then(reader.low as u64);
+    } else {
+        then(0);
+    }
+    then(reader.options.raster as u64);
+    then(flag(reader.options.wipe));
+    then_tag(reader.tag);
 }
 
 // What is told of a desk after its takes: what comes of the end of the input, 81, or its session, 82.
@@ -213,6 +253,20 @@ fn stage_of(n: u32) -> Stage {
         6 => Stage::LowByte,
         7 => Stage::HighByte,
         _ => Stage::Stopped,
+    }
+}
+
+fn stage_number(stage: Stage) -> u64 {
+    match stage {
+        Stage::TagCount => 0,
+        Stage::TagBytes => 1,
+        Stage::OptionsCount => 2,
+        Stage::RasterByte => 3,
+        Stage::WipeByte => 4,
+        Stage::WordCount => 5,
+        Stage::LowByte => 6,
+        Stage::HighByte => 7,
+        Stage::Stopped => 8,
     }
 }
 

@@ -6,6 +6,7 @@ use jobs::Taken;
 use line::Line;
 use reader::Read;
 use reader::Reader;
+use reader::Run;
 ghost use mathlib.Core.Path.{_≡_};
 
 pub struct TwoReaders {
@@ -16,6 +17,11 @@ pub struct TwoReaders {
 pub struct TwoRead {
     pub first: Read,
     pub second: Read,
+}
+
+pub struct TwoRuns {
+    pub first: Run,
+    pub second: Run,
 }
 
 pub struct TwoTests {
@@ -57,6 +63,15 @@ pub fn read(reader: Reader, byte: u8) -> TwoRead
     let first = reader.read(byte);
     let second = reader.read(byte);
     TwoRead { first, second }
+}
+
+// The same bytes, with their words over those of two slices.
+pub fn read_words(reader: Reader, bytes: &[u8], a: &mut [u16], b: &mut [u16]) -> TwoRuns
+    ensures { λ r. ⌜ (now (a .entry) ≡ now (b .entry) → (r .first ≡ r .second) × (now (a .exit) ≡ now (b .exit))) ⌝ }
+{
+    let first = reader.read_words(bytes, a);
+    let second = reader.read_words(bytes, b);
+    TwoRuns { first, second }
 }
 
 pub fn is_cut(reader: Reader) -> TwoTests

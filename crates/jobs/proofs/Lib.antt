@@ -1,2 +1,3 @@
 pub mod Walking
 pub mod Taking
+pub mod Rushing

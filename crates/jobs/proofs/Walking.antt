@@ -1,5 +1,5 @@
 -- Laws of a walk over bytes: a turn of the loop, its two ends, and how far it comes.
-use mathlib.Core.Path.{_≡_, refl, sym, ap, _∙_}
+use mathlib.Core.Path.{_≡_, refl, _∙_}
 use mathlib.Core.Bool.{Bool, true, false}
 use mathlib.Core.List.{List, [], _∷_}
 use Prim.Native.Nat.{ℕ, zero, suc, _+_, _≤_, _<_}
@@ -11,17 +11,27 @@ use Rattle.bits.specs.Choice.{if}
 use Rattle.jobs.specs.declared.Desk.{Desk}
 use Rattle.jobs.specs.declared.Outcome.{Outcome}
 use Rattle.jobs.specs.declared.Turn.{Turn}
-use Rattle.jobs.specs.Desk.{nothing, isNothing, turned, turnedY, turnedC, standing, Walk, walk, walkedOne, walked, walkOf, takeRefusal, takenBy, taken}
+use Rattle.jobs.specs.Desk.{nothing, isNothing, turned, turnedY, turnedC, Standing, standing, Walk, walk, walkedOne, walked, walkOf, takeRefusal, takenBy, taken}
 
--- a turn of the loop
-pub walked-step : (at : ℕ) (bs y c : List ℕ) (d : Desk) (o : Outcome) {t : Turn} {y' c' : List ℕ} → at < length bs → isNothing (o .kind) ≡ true
-    → t ≡ turned d (getD bs at 0) y c → y' ≡ turnedY d (getD bs at 0) y c → c' ≡ turnedC d (getD bs at 0) y c
-    → walked (drop at bs) (walk (standing d y c) at o) ≡ walked (drop (at + 1) bs) (walk (standing (t .desk) y' c') (at + 1) (t .outcome))
+-- an outcome with no job gives way to the next byte's
+walked-any : (at : ℕ) (bs : List ℕ) (x : Standing) (o : Outcome) → at < length bs → isNothing (o .kind) ≡ true
+    → walked (drop at bs) (walk x at o) ≡ walked (drop at bs) (walk x at nothing)
 unfolding walked
-walked-step at bs y c d o l n et ey ec =
-    let next = walkedOne (getD bs at 0) (walk (standing d y c) at o) in
-    let one : walked (drop at bs) (walk (standing d y c) at o) ≡ walked (drop (suc at) bs) next = rw (drop-cons bs at 0, n) in
-    rw (et, ey, ec) (one ∙ ap (λ (i : ℕ). walked (drop i bs) next) (sym (add-one at)))
+walked-any at bs x o l n = rw (drop-cons bs at 0, n)
+
+walked-byte : (at : ℕ) (bs : List ℕ) (x : Standing) → at < length bs
+    → walked (drop at bs) (walk x at nothing) ≡ walked (drop (at + 1) bs) (walkedOne (getD bs at 0) (walk x at nothing))
+unfolding walked
+walked-byte at bs x l = rw (drop-cons bs at 0, add-one)
+
+-- a turn of the loop: bytes that were taken at once, after an outcome with no job, and one more
+pub walked-step : {w : Walk} (at next : ℕ) (bs y c y₁ c₁ : List ℕ) (d d₁ : Desk) (o : Outcome) {t : Turn} {y₂ c₂ : List ℕ}
+    → w ≡ walked (drop at bs) (walk (standing d y c) at o) → at < length bs → isNothing (o .kind) ≡ true
+    → walked (drop at bs) (walk (standing d y c) at nothing) ≡ walked (drop next bs) (walk (standing d₁ y₁ c₁) next nothing) → next < length bs
+    → t ≡ turned d₁ (getD bs next 0) y₁ c₁ → y₂ ≡ turnedY d₁ (getD bs next 0) y₁ c₁ → c₂ ≡ turnedC d₁ (getD bs next 0) y₁ c₁
+    → w ≡ walked (drop (next + 1) bs) (walk (standing (t .desk) y₂ c₂) (next + 1) (t .outcome))
+walked-step at next bs y c y₁ c₁ d d₁ o start l n rush m et ey ec =
+    rw (et, ey, ec) (start ∙ walked-any at bs (standing d y c) o l n ∙ rush ∙ walked-byte next bs (standing d₁ y₁ c₁) m)
 
 -- where the bytes end, and after the byte that ends a job or is refused
 pub walked-end : (at : ℕ) (bs : List ℕ) (x : Walk) → length bs ≤ at → walked (drop at bs) x ≡ x

@@ -7,7 +7,9 @@ use session::Session;
 use tally::Counts;
 use tally::Verdict;
 ghost use mathlib.Core.Path.{_≡_};
-ghost use Rattle.jobs.specs.Desk.{cAfter, finished, freshDesk, isNothing, jobless, outcomeOf, sessionAfter, taken, takenC, takenY, takeRefusal, turned, turnedC, turnedY, wordsAt, yAfter};
+ghost use Prim.Native.Nat.{_≤_, _<_};
+ghost use lib.ListN.{length, drop};
+ghost use Rattle.jobs.specs.Desk.{cAfter, finished, freshDesk, isNothing, jobless, nothing, outcomeOf, sessionAfter, standing, taken, takenC, takenY, takeRefusal, turned, turnedC, turnedY, walk, walked, wordsAt, yAfter};
 
 pub struct Job {
     pub tag: Tag,
@@ -34,6 +36,15 @@ pub struct Outcome {
 pub struct Desk {
     pub reader: Reader,
     pub session: Session,
+}
+
+// How many words are fed at once.
+const ROOM: usize = 4096;
+
+// The desk after words that were taken at once, and where the bytes after them start.
+struct Rushed {
+    desk: Desk,
+    at: usize,
 }
 
 struct Turn {
@@ -135,8 +146,7 @@ impl Desk {
         ensures yrow { λ _. ⌜ now (y .exit) ≡ turnedY self byte (now (y .entry)) (now (c .entry)) ⌝ }
         ensures crow { λ _. ⌜ now (c .exit) ≡ turnedC self byte (now (y .entry)) (now (c .entry)) ⌝ }
     {
-        let before = self.reader;
-        let read = before.read(byte);
+        let read = self.reader.read(byte);
         let piece = read.piece;
         let reader = read.reader;
         let session = session_after(piece, self.session, y, c);
@@ -150,13 +160,13 @@ impl Desk {
         let ended = session.end();
         let session = ended.session;
         let desk = Desk { reader, session };
-        let tag = before.tag;
+        let tag = self.reader.tag;
         let counts = ended.counts;
         let verdict = ended.verdict;
         let job = Job {
             tag,
             raster: ended.raster,
-            wipe: before.options.wipe,
+            wipe: self.reader.options.wipe,
             counts,
             verdict,
         };
@@ -165,6 +175,26 @@ impl Desk {
             job,
         };
         Turn { desk, outcome }
+    }
+
+    // Takes words at once, and leaves a byte or more. Words that `feed` refuses are left too, for the byte that is at fault to be met.
+    fn rush(self, bytes: &[u8], at: usize, room: &mut [u16], y: &mut [u16], c: &mut [u16]) -> Rushed
+        requires { ⌜ at < length (now bytes) ⌝ }
+        ensures within { λ r. ⌜ (at ≤ r .at) × (r .at < length (now (bytes .entry))) ⌝ }
+        ensures rest { λ r. ⌜ walked (drop at (now (bytes .entry))) (walk (standing self (now (y .entry)) (now (c .entry))) at nothing) ≡ walked (drop (r .at) (now (bytes .entry))) (walk (standing (r .desk) (now (y .exit)) (now (c .exit))) (r .at) nothing) ⌝ }
+    {
+        let last = bytes.len() - 1;
+        let run = self.reader.read_words(&bytes[at..last], room);
+        let n = run.words;
+        let end = at + 2 * n;
+        let fed = self.session.feed(&room[..n], y, c);
+        if fed.refusal != 0 {
+            return Rushed { desk: self, at };
+        }
+        let reader = run.reader;
+        let session = fed.session;
+        let desk = Desk { reader, session };
+        Rushed { desk, at: end }
     }
 
     // The refusal of taking; 7, 1.
@@ -205,15 +235,18 @@ impl Desk {
                 outcome,
             };
         }
+        let mut room = [0u16; ROOM];
         while at < bytes.len() {
             let kind = outcome.kind;
             if !is_nothing(kind) {
                 break;
             }
-            let turn = desk.turn(bytes[at], y, c);
+            let rushed = desk.rush(bytes, at, &mut room, y, c);
+            let next = rushed.at;
+            let turn = rushed.desk.turn(bytes[next], y, c);
             desk = turn.desk;
             outcome = turn.outcome;
-            at += 1;
+            at = next + 1;
         }
         Taken {
             refusal: 0,

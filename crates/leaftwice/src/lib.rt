@@ -5,6 +5,7 @@ use align::Sync;
 use cable::Coded;
 use crc::CrcWords;
 use crc::Ran;
+use crcs::Registers;
 use raster::Kind;
 use raster::LineFacts;
 use raster::LookedUp;
@@ -35,6 +36,11 @@ pub struct TwoLookedUp {
 pub struct TwoLineFacts {
     pub first: LineFacts,
     pub second: LineFacts,
+}
+
+pub struct TwoRegisters {
+    pub first: Registers,
+    pub second: Registers,
 }
 
 pub struct TwoRan {
@@ -134,6 +140,14 @@ pub fn step_words(register: u32, words: &[u16]) -> Numbers
     let first = crc::step_words(register, words);
     let second = crc::step_words(register, words);
     Numbers { first, second }
+}
+
+pub fn step_channels(y: &[u16], c: &[u16]) -> TwoRegisters
+    ensures { λ r. ⌜ r .first ≡ r .second ⌝ }
+{
+    let first = crcs::step_channels(y, c);
+    let second = crcs::step_channels(y, c);
+    TwoRegisters { first, second }
 }
 
 pub fn run(register: u32, words: &[u16]) -> TwoRan

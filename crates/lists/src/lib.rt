@@ -18,7 +18,7 @@ fn wide(word: u16) -> u64 {
 }
 
 // A list's elements.
-fn elements(words: &[u16]) {
+pub fn elements(words: &[u16]) {
     let mut i = 0;
     while i < words.len() {
         then(wide(words[i]));
@@ -32,7 +32,7 @@ pub fn end_line() {
 }
 
 // Copies the list at a place, which its count precedes, and answers how many words there are.
-fn take_words(args: &[u32], at: usize, words: &mut [u16]) -> usize
+pub fn take_words(args: &[u32], at: usize, words: &mut [u16]) -> usize
     ensures { λ r. ⌜ r ≤ length (now (words .exit)) ⌝ }
 {
     let count = arg(args, at) as usize;
@@ -53,7 +53,7 @@ pub fn answer(args: &[u32]) {
         0x1 | 0x8 | 0x32 => of_list(args, 1),
         0x21 | 0x23 => of_list(args, 2),
         0x4 | 0x5 | 0x9 => one_list(args),
-        0x6 | 0x7 => two_lists(args),
+        0x6 | 0x7 | 0x24 => two_lists(args),
         0x30 | 0x31 => coded(args),
         _ => answers::answer(
             arg(args, 0),
@@ -100,14 +100,24 @@ fn two_lists(args: &[u32]) {
 
 fn second_list(args: &[u32], at: usize, words: &mut [u16]) {
     let mut others = [0u16; 20000];
-    if arg(args, 0) == 0x6 {
-        let n = take_words(args, at, &mut others);
-        first(flag(parts::same(words, &others[0..n])));
+    if arg(args, 0) == 0x7 {
+        let n = take_words(args, at % 65536 + 1, &mut others);
+        parts::lay(words, arg(args, at) as usize, &others[0..n]);
+        list(words);
         return;
     }
-    let n = take_words(args, at % 65536 + 1, &mut others);
-    parts::lay(words, arg(args, at) as usize, &others[0..n]);
-    list(words);
+    let n = take_words(args, at, &mut others);
+    of_two(arg(args, 0), words, &others[0..n]);
+}
+
+// Whether two lists are the same, 6; the registers after both, 24.
+fn of_two(request: u32, words: &[u16], others: &[u16]) {
+    if request == 0x6 {
+        first(flag(parts::same(words, others)));
+        return;
+    }
+    let r = crcs::step_channels(words, others);
+    two(r.y as u64, r.c as u64);
 }
 
 // A list, from the first number of a line.

@@ -1,6 +1,6 @@
 -- Laws of same and any: a turn of a loop, its stop and its end.
 use mathlib.Core.Path.{_≡_, refl, ap}
-use mathlib.Core.Bool.{Bool, true, false, _||_}
+use mathlib.Core.Bool.{Bool, true, false, _||_, or-assoc, or-false}
 use mathlib.Core.List.{List, [], _∷_, _++_, map}
 use Prim.Native.Nat.{ℕ, zero, suc, _+_, _≤_, _<_}
 use native.Mathlib.Omega.{arith}
@@ -68,9 +68,18 @@ module _ {A : Type 0} (p : A → Bool) (d : A) where
   unfolding any
   any-stop i xs h e = rw (drop-cons xs i d, e)
 
+  -- a step of a loop that looks at every one
+  pub any-found-step : (found : Bool) (i : ℕ) (xs : List A) → i < length xs
+      → (found || p (getD xs i d) || any p (drop (i + 1) xs)) ≡ (found || any p (drop i xs))
+  unfolding any
+  any-found-step found i xs h = rw (add-one, drop-cons xs i d) (or-assoc found (p (getD xs i d)) (any p (drop (suc i) xs)))
+
 pub any-end : {A : Type 0} (p : A → Bool) (i : ℕ) (xs : List A) → i ≡ length xs → any p (drop i xs) ≡ false
 unfolding any
 any-end p i xs e = rw (e, drop-length)
+
+pub any-found-end : {A : Type 0} (p : A → Bool) (found : Bool) (i : ℕ) (xs : List A) → i ≡ length xs → (found || any p (drop i xs)) ≡ found
+any-found-end p found i xs e = rw (any-end p i xs e, or-false)
 
 pub any-of-append : {A : Type 0} (p : A → Bool) (xs ys : List A) → any p (xs ++ ys) ≡ (any p xs || any p ys)
 unfolding any

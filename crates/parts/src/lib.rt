@@ -1,5 +1,6 @@
 // Parts of slices of words: handed on as they are, compared, laid over others. None of these refuses anything.
 ghost use mathlib.Core.Path.{_≡_};
+ghost use Prim.Native.Nat.{_%_};
 ghost use lib.ListN.{replicate};
 ghost use Rattle.bits.specs.Words.{reservedCode};
 ghost use Rattle.parts.specs.Parts.{any, laid, part, same};
@@ -35,10 +36,26 @@ pub fn same(first: &[u16], second: &[u16]) -> bool
     true
 }
 
-// Whether a word is a reserved code.
+// Whether the low ten bits of a word are a reserved code: by one comparison a word and no early return, so that many words are compared at once.
+fn any_low_reserved(words: &[u16]) -> bool
+    ensures { λ r. ⌜ r ≡ any (λ w. reservedCode (w % 1024)) (now (words .entry)) ⌝ }
+{
+    let mut found = false;
+    let mut i = 0;
+    while i < words.len() {
+        found = found | ((words[i] % 1024 + 4) % 1024 < 8);
+        i += 1;
+    }
+    found
+}
+
+// Whether a word is a reserved code. Where the low ten bits of none are one, as most often, no word is; else each is looked at.
 pub fn any_reserved(words: &[u16]) -> bool
     ensures { λ r. ⌜ r ≡ any reservedCode (now (words .entry)) ⌝ }
 {
+    if !any_low_reserved(words) {
+        return false;
+    }
     let mut i = 0;
     while i < words.len() {
         if bits::reserved(words[i]) {

@@ -32,7 +32,7 @@ fn answer(args: &[u32]) {
         0x58 | 0x59 | 0x66..=0x6b => channels::answer(args),
         0x70..=0x73 => sessions::answer(args),
         0x74..=0x7a => steps::answer(args),
-        0x80..=0x83 => desks::answer(args),
+        0x80..=0x84 => desks::answer(args),
         _ => rows::answer(args),
     }
 }

@@ -7,7 +7,7 @@ ghost use mathlib.Core.List.{[], _∷_};
 ghost use Prim.Native.Nat.{_<_};
 ghost use Rattle.bits.specs.Bits.{number};
 ghost use Rattle.row.specs.Before.{carried, carryOk};
-ghost use Rattle.row.specs.Row.{checkRefusal, checked, flagsOf, joined, judged};
+ghost use Rattle.row.specs.Row.{carryAfter, checkRefusal, checked, flagsOf, joined, judged};
 
 // The CRC registers of Y and C after a row's active words, or nothing where there was no row.
 pub enum Carry {
@@ -89,6 +89,18 @@ fn flags(plan: Plan, carry: Carry, y: &[u16], c: &[u16]) -> u16
     join(in_y, in_c)
 }
 
+// The next carry: the registers after the active words, of both channels at once.
+fn carry_after(plan: Plan, y: &[u16], c: &[u16]) -> Carry
+    ensures { λ r. ⌜ r ≡ carryAfter plan (now (y .entry)) (now (c .entry)) ⌝ }
+{
+    let places = plan.places;
+    let registers = crcs::step_channels(
+        parts::part(y, places.active, places.count),
+        parts::part(c, places.active, places.count),
+    );
+    Carry::Registers(registers.y, registers.c)
+}
+
 // Flags and next carry of a row's words, whatever they are. It refuses nothing: where raster or line are not of the table there is
 // nothing to judge by, and where a slice is not of T words its parts are what there is of them.
 pub fn judge(raster: u32, line: u32, carry: Carry, y: &[u16], c: &[u16]) -> Judged
@@ -102,12 +114,8 @@ pub fn judge(raster: u32, line: u32, carry: Carry, y: &[u16], c: &[u16]) -> Judg
         };
     }
     let flags = flags(plan, carry, y, c);
-    let after_y = stream::register_after(plan, y);
-    let after_c = stream::register_after(plan, c);
-    Judged {
-        flags,
-        carry: Carry::Registers(after_y, after_c),
-    }
+    let carry = carry_after(plan, y, c);
+    Judged { flags, carry }
 }
 
 // The refusal of a row that is checked or corrected; 4, 5, 2, 3.

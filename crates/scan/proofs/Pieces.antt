@@ -11,12 +11,13 @@ use lib.Seq.{length-take-le, drop-drop, getD-drop, getD-take}
 use borrow.Author.Tests.{le-leb, lt-leb}
 use Rattle.bits.specs.Choice.{if}
 use Rattle.bits.specs.Words.{nineOf, reservedCode}
-use Rattle.parts.specs.Parts.{any}
+use Rattle.parts.specs.Parts.{same, any}
+use Rattle.parts.proofs.Comparing.{any-cons}
 use Rattle.scan.specs.declared.Here.{Here}
 use Rattle.scan.specs.declared.Here.the-variants.{Nothing, Cut, Whole}
 use Rattle.scan.specs.declared.Scanned.{Scanned}
 use Rattle.scan.specs.Packet.{marked, sizeOf, fits, sumOf, checksumOf, rightChecksum, checksumIn}
-use Rattle.scan.specs.Scan.{Piece, Word, Marker, Packet, wordsOf, pieceAt, scanFrom, scan, cutPiece, wrongSum, unfitSum, packetsOf, scanned, hereOf}
+use Rattle.scan.specs.Scan.{Piece, Word, Marker, Packet, wordsOf, pieceAt, scanFrom, scan, packetsOf, scanned, hereOf}
 use Rattle.scan.proofs.Packets.{marked-words, marked-room, fits-room, after-marker, summed-at, checksumIn-at}
 
 -- ---- pieceAt
@@ -137,35 +138,48 @@ scan-turn r i here h e = subst (Turn r i) e (turn (scan-step l (omega (arith, le
         pieceAt-cases Step l (λ m s. record { next = s ∙ simp (getD-drop, add-zero, drop-drop) })
         (λ m f s. record { room = omega (arith, marked-room r i m); next = s ∙ rw drop-drop }) (λ m f s. whole f s)
 
+-- ---- scanned: of a word where no packet starts, and of words without 000, nothing is told
+
+pub scanned-nothing : (r : List ℕ) (i : ℕ) → i < length r → hereOf (pieceAt (drop i r)) ≡ Nothing
+    → scanned (scan (drop i r)) ≡ scanned (scan (drop (i + 1) r))
+unfolding packetsOf flatMap any
+scanned-nothing r i h e = rw (scan-turn r i Nothing h e .next)
+
+pub scanned-past : (r : List ℕ) (i k : ℕ) → any (λ w. eqb w 0) (take k (drop i r)) ≡ false → scanned (scan (drop i r)) ≡ scanned (scan (drop (i + k) r))
+unfolding marked same
+scanned-past r i k e = go k (drop i r) e ∙ rw drop-drop
+  where
+    go : (k : ℕ) (ws : List ℕ) → any (λ w. eqb w 0) (take k ws) ≡ false → scanned (scan ws) ≡ scanned (scan (drop k ws))
+    go zero ws e = refl
+    go (suc k) [] e = refl
+    go (suc k) (w ∷ ws) e =
+        let b = any-cons (λ v. eqb v 0) w (take k ws) e in
+        scanned-nothing (w ∷ ws) 0 (omega arith) (hereOf-nothing (w ∷ ws) 0 (rw (b .0))) ∙ go k ws (b .1)
+
 -- ---- scanned: what is told of the pieces passed, and of those that are left
 
-abbrev pub withRest : ℕ → Bool → Bool → Bool → List Piece → Scanned
-withRest words cut wrong unfit ps =
+abbrev pub withRest : ℕ → Bool → Bool → Bool → Scanned → Scanned
+withRest words cut wrong unfit rest =
     record {
-      words = words + length (packetsOf ps);
-      cut = cut || any cutPiece ps;
-      wrong = wrong || any wrongSum ps;
-      unfit = unfit || any unfitSum ps;
+      words = words + rest .words;
+      cut = cut || rest .cut;
+      wrong = wrong || rest .wrong;
+      unfit = unfit || rest .unfit;
     }
 
-pub scanned-start : (ps : List Piece) → scanned ps ≡ withRest 0 false false false ps
+pub scanned-start : (ps : List Piece) → scanned ps ≡ withRest 0 false false false (scanned ps)
 scanned-start ps = rw zero-add
 
 module _ (r : List ℕ) (i : ℕ) (h : i < length r) (words : ℕ) (cut wrong unfit : Bool) where
-  pub scanned-nothing : hereOf (pieceAt (drop i r)) ≡ Nothing
-      → withRest words cut wrong unfit (scan (drop i r)) ≡ withRest words cut wrong unfit (scan (drop (i + 1) r))
-  unfolding packetsOf flatMap any
-  scanned-nothing e = rw (scan-turn r i Nothing h e .next)
-
   pub scanned-cut : hereOf (pieceAt (drop i r)) ≡ Cut
-      → withRest words cut wrong unfit (scan (drop i r)) ≡ withRest words true wrong unfit (scan (drop (i + 3) r))
+      → withRest words cut wrong unfit (scanned (scan (drop i r))) ≡ withRest words true wrong unfit (scanned (scan (drop (i + 3) r)))
   unfolding packetsOf flatMap any
   scanned-cut e = rw (scan-turn r i Cut h e .next, or-true)
 
   pub scanned-whole : (last sum : ℕ) → hereOf (pieceAt (drop i r)) ≡ Whole (last + 1) → sum ≡ sumOf (drop 3 (take last (drop i r))) % 512
-      → withRest words cut wrong unfit (scan (drop i r))
+      → withRest words cut wrong unfit (scanned (scan (drop i r)))
       ≡ withRest (words + (last + 1)) cut (wrong || not (eqb (getD r (i + last) 0) (nineOf sum))) (unfit || reservedCode (nineOf sum))
-      (scan (drop (i + (last + 1)) r))
+      (scanned (scan (drop (i + (last + 1)) r)))
   unfolding packetsOf flatMap any checksumOf
   scanned-whole last sum e s =
       let n : ℕ = last + 1 in
@@ -178,6 +192,7 @@ module _ (r : List ℕ) (i : ℕ) (h : i < length r) (words : ℕ) (cut wrong un
       let long : length p ≡ n = length-take-le n (drop i r) (omega (arith, length-drop i r, t .room)) in
       rw (t .next, right, has, length-append, long) (simp (add-assoc, or-assoc))
 
-pub scanned-end : (words : ℕ) (cut wrong unfit : Bool) → withRest words cut wrong unfit [] ≡ record { words = words; cut = cut; wrong = wrong; unfit = unfit }
+pub scanned-end : (words : ℕ) (cut wrong unfit : Bool)
+    → withRest words cut wrong unfit (scanned []) ≡ record { words = words; cut = cut; wrong = wrong; unfit = unfit }
 unfolding packetsOf flatMap any
 scanned-end words cut wrong unfit = simp or-false (rw add-zero)

@@ -1,6 +1,9 @@
 // The scan of one region for ancillary packets.
 ghost use mathlib.Core.Path.{_≡_};
-ghost use lib.ListN.{drop};
+ghost use Prim.Native.Nat.{_+_, _≤_, _<_};
+ghost use lib.Dec.{eqb};
+ghost use lib.ListN.{length, drop};
+ghost use Rattle.parts.specs.Parts.{any};
 ghost use Rattle.scan.specs.Packet.{checksumOf, marked};
 ghost use Rattle.scan.specs.Scan.{pieceAt, scan, scanned, hereOf};
 
@@ -57,6 +60,40 @@ pub fn here_at(region: &[u16], at: usize) -> Here
     Here::Whole(size)
 }
 
+// Whether a word is 000. There is no early return, so that many words are compared at once.
+fn any_zero(words: &[u16]) -> bool
+    ensures { λ r. ⌜ r ≡ any (λ w. eqb w 0) (now (words .entry)) ⌝ }
+{
+    let mut found = false;
+    let mut i = 0;
+    while i < words.len() {
+        found = found | (words[i] == 0);
+        i += 1;
+    }
+    found
+}
+
+// Where the scan goes on after a place where no packet starts. A packet starts with 000, so that words without one are passed, sixteen at a time.
+// Only every sixteenth place looks ahead: where 000 is frequent, no word is looked at again and again.
+fn onward(region: &[u16], at: usize) -> usize
+    requires { ⌜ at < length (now region) ⌝ }
+    ensures place { λ r. ⌜ (at < r) × (r ≤ length (now (region .entry))) ⌝ }
+    ensures rest { λ r. ⌜ scanned (scan (drop (at + 1) (now (region .entry)))) ≡ scanned (scan (drop r (now (region .entry)))) ⌝ }
+{
+    let n = region.len();
+    let mut i = at + 1;
+    if at % 16 != 0 {
+        return i;
+    }
+    while 16 <= n - i {
+        if any_zero(&region[i..i + 16]) {
+            return i;
+        }
+        i += 16;
+    }
+    i
+}
+
 // The scan: cut packets are passed by their first three words, whole ones to the word after their checksum.
 pub fn scan(region: &[u16]) -> Scanned
     ensures { λ r. ⌜ r ≡ scanned (scan (now (region .entry))) ⌝ }
@@ -69,7 +106,7 @@ pub fn scan(region: &[u16]) -> Scanned
     let mut i = 0;
     'scan: while i < n {
         if !marked_at(region, i) {
-            i += 1;
+            i = onward(region, i);
             continue 'scan;
         }
         if n - i < 6 {

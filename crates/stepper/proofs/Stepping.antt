@@ -8,9 +8,9 @@ use native.Mathlib.Numerals.{add-one}
 use lib.ListN.{length, getD, drop, drop-of-length-le}
 use lib.Seq.{drop-cons}
 use Rattle.bits.specs.Bits.{odd, bits, wordBits}
-use Rattle.cable.specs.Words.{unscrambleWord, unscrambleWords}
-use Rattle.cable.proofs.Words.{unscramble-nil, unscramble-step}
+use Rattle.laying.specs.Laying.{laidBy}
 use Rattle.stepper.specs.Step.{Run, Laying, stepped, steps}
+use Rattle.stepper.specs.Hurry.{goneOn}
 
 -- ---- steps
 
@@ -26,17 +26,13 @@ module _ (lay : Laying) (code total : ℕ) where
   unfolding steps bits
   steps-word k w x l e = let left : 10 - k ≡ suc (10 - (k + 1)) = omega arith in rw (left, e)
 
-  -- a turn of the loop over the words
-  pub steps-words : (h i : ℕ) (ws : List ℕ) (x : Run) {d : ℕ} {r : Run} → i < length ws → d ≡ unscrambleWord h (getD ws i 0)
-      → r ≡ steps lay code total (bits 10 d) x
-      → steps lay code total (wordBits (unscrambleWords h (drop i ws))) x
-      ≡ steps lay code total (wordBits (unscrambleWords (getD ws i 0) (drop (i + 1) ws))) r
-  unfolding wordBits
-  steps-words h i ws x {d} l u e =
-      rw (add-one, drop-cons ws i 0, unscramble-step h (getD ws i 0) (drop (suc i) ws), ← u, e)
-      (steps-of-append (bits 10 d) (wordBits (unscrambleWords (getD ws i 0) (drop (suc i) ws))) x)
+-- a turn of the loop over unscrambled words, and its end
+pub gone-word : (code total i : ℕ) (ws : List ℕ) (x : Run) {r : Run} → i < length ws → r ≡ steps laidBy code total (bits 10 (getD ws i 0)) x
+    → goneOn code total ws i x ≡ goneOn code total ws (i + 1) r
+unfolding wordBits
+gone-word code total i ws x l e =
+    rw (add-one, drop-cons ws i 0, e) (steps-of-append laidBy code total (bits 10 (getD ws i 0)) (wordBits (drop (suc i) ws)) x)
 
-  -- and its end
-  pub steps-no-words : (h i : ℕ) (ws : List ℕ) (x : Run) → length ws ≤ i → steps lay code total (wordBits (unscrambleWords h (drop i ws))) x ≡ x
-  unfolding steps wordBits
-  steps-no-words h i ws x l = rw (drop-of-length-le ws l, unscramble-nil h)
+pub gone-none : (code total i : ℕ) (ws : List ℕ) (x : Run) → length ws ≤ i → goneOn code total ws i x ≡ x
+unfolding steps wordBits
+gone-none code total i ws x l = rw (drop-of-length-le ws l)

@@ -4,23 +4,34 @@ use Rattle.cable.proofs.Codes.{unscramble-code}
 use Rattle.cable.proofs.unscramble_word.Statement.{statement}
 use Rattle.cable.proofs.unscramble_word.Tie as tie
 
-cast-x : tie.Need-cast-x
-cast-x c = search needs
+mul-one : tie.Need-mul-one
+mul-one c = search needs
 
-cast-x-2 : tie.Need-cast-x-2
-cast-x-2 c = search needs
+add-one : tie.Need-add-one
+add-one c = search needs
 
-mul-x : tie.Need-mul-x
-mul-x c = search needs
+mul-four : tie.Need-mul-four
+mul-four c = search needs
 
-add-x : tie.Need-add-x
-add-x c = search needs
+add-four : tie.Need-add-four
+add-four c = search needs
 
-cast-result : tie.Need-cast-result
-cast-result c = search needs
+mul-five : tie.Need-mul-five
+mul-five c = search needs
+
+add-five : tie.Need-add-five
+add-five c = search needs
+
+mul-nine : tie.Need-mul-nine
+mul-nine c = search needs
+
+add-nine : tie.Need-add-nine
+add-nine c = search needs
 
 returns : tie.Need-returns
 returns c = unscramble-code (c .args .history) (c .args .word)
 
 pub unscramble-word-spec : {M : Type 1} → statement M
-unscramble-word-spec = tie.close (tie.spec cast-x cast-x-2 mul-x add-x cast-result returns)
+unscramble-word-spec =
+    tie.close
+    (tie.spec mul-one add-one mul-four add-four mul-five add-five mul-nine add-nine returns)

@@ -3,9 +3,11 @@ use Prim.Native.Nat.{_≤_, _-_}
 use native.Mathlib.Omega.{arith}
 use lib.ListN.{length, drop}
 use borrow.Author.Needs.{needs}
+use borrow.Author.Tests.{not-true}
 use Rattle.bits.specs.Words.{reservedCode}
+use Rattle.bits.proofs.Words.{reserved-of-low}
 use Rattle.parts.specs.Parts.{any}
-use Rattle.parts.proofs.Comparing.{any-step, any-stop, any-end}
+use Rattle.parts.proofs.Comparing.{any-step, any-stop, any-end, any-weaken}
 use Rattle.parts.proofs.any_reserved.Statement.{statement}
 use Rattle.parts.proofs.any_reserved.Tie as tie
 
@@ -14,6 +16,12 @@ Inv-loop words i₀ i = (i ≤ length words) × (any reservedCode (drop i words)
 
 abbrev μ-loop : tie.MeasureT-loop
 μ-loop words i₀ i = length words - i
+
+any-low-reserved-requires : tie.Need-any-low-reserved-requires Inv-loop μ-loop
+any-low-reserved-requires c κs = search needs
+
+returns : tie.Need-returns Inv-loop μ-loop
+returns c = sym (any-weaken _ reservedCode reserved-of-low _ (sym (c .before .any-low-reserved .ensures) ∙ not-true _ (c .if1 .taken)))
 
 loop-holds : tie.Need-loop-holds Inv-loop μ-loop
 loop-holds c = (omega arith, refl)
@@ -27,11 +35,10 @@ shared-slice-read-reserved c = search needs
 reserved-requires : tie.Need-reserved-requires Inv-loop μ-loop
 reserved-requires c κs = search needs
 
-returns : tie.Need-returns Inv-loop μ-loop
-returns c =
+returns-2 : tie.Need-returns-2 Inv-loop μ-loop
+returns-2 c =
     let at = c .before .before .before .before .loop in
-    let words = c .before .before .before .before .before .before .args .words .now in
-    sym (any-stop reservedCode 0 (at .i) words (omega arith) (sym (c .before .reserved .ensures) ∙ c .if1 .taken)) ∙ at .inv .1
+    sym (any-stop reservedCode 0 (at .i) _ (omega arith) (sym (c .before .reserved .ensures) ∙ c .if2 .taken)) ∙ at .inv .1
 
 add-i : tie.Need-add-i Inv-loop μ-loop
 add-i c = omega arith
@@ -42,13 +49,12 @@ loop-less c = omega arith
 loop-again : tie.Need-loop-again Inv-loop μ-loop
 loop-again c =
     let at = c .before .before .before .before .loop in
-    let words = c .before .before .before .before .before .before .args .words .now in
-    (omega arith, sym (any-step reservedCode 0 (at .i) words (omega arith) (sym (c .before .reserved .ensures) ∙ c .if1 .left)) ∙ at .inv .1)
+    (omega arith, sym (any-step reservedCode 0 (at .i) _ (omega arith) (sym (c .before .reserved .ensures) ∙ c .if2 .left)) ∙ at .inv .1)
 
-returns-2 : tie.Need-returns-2 Inv-loop μ-loop
-returns-2 c =
+returns-3 : tie.Need-returns-3 Inv-loop μ-loop
+returns-3 c =
     let at = c .before .loop in
-    sym (any-end reservedCode (at .i) (c .before .before .before .args .words .now) (omega arith)) ∙ at .inv .1
+    sym (any-end reservedCode (at .i) _ (omega arith)) ∙ at .inv .1
 
 pub any-reserved-spec : {M : Type 1} → statement M
 any-reserved-spec =
@@ -56,12 +62,14 @@ any-reserved-spec =
     (tie.spec
     Inv-loop
     μ-loop
+    any-low-reserved-requires
+    returns
     loop-holds
     mul-reserved
     shared-slice-read-reserved
     reserved-requires
-    returns
+    returns-2
     add-i
     loop-less
     loop-again
-    returns-2)
+    returns-3)

@@ -18,27 +18,16 @@ returns c =
 flags-requires : tie.Need-flags-requires
 flags-requires c κs = search needs
 
-register-after-requires : tie.Need-register-after-requires
-register-after-requires c κs = search needs
-
-register-after-requires-2 : tie.Need-register-after-requires-2
-register-after-requires-2 c κs = search needs
+carry-after-requires : tie.Need-carry-after-requires
+carry-after-requires c κs = search needs
 
 returns-2 : tie.Need-returns-2
 unfolding judged
 returns-2 c =
-    let flags = c .before .before in
+    let flags = c .before in
     let made = flags .before .before .before .plan-of .ensures in
     let found = sym (planOf-refusal _ _) ∙ sym (ap (λ p. p .refusal) made) ∙ flags .before .if1 .left in
-    rw (found, flags .flags .ensures, c .before .register-after .ensures, c .register-after2 .ensures, made)
+    rw (found, flags .flags .ensures, c .carry-after .ensures, made)
 
 pub judge-spec : {M : Type 1} → statement M
-judge-spec =
-    tie.close
-    (tie.spec
-    plan-of-requires
-    returns
-    flags-requires
-    register-after-requires
-    register-after-requires-2
-    returns-2)
+judge-spec = tie.close (tie.spec plan-of-requires returns flags-requires carry-after-requires returns-2)

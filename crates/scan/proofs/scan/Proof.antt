@@ -25,7 +25,7 @@ abbrev μ-loop : tie.MeasureT-loop
 
 abbrev Inv-scan : tie.InvT-scan
 Inv-scan region n words₀ cut₀ wrong₀ unfit₀ i₀ words cut wrong unfit i =
-    (words ≤ i) × (i ≤ n) × (scanned (scan region) ≡ withRest words cut wrong unfit (scan (drop i region)))
+    (words ≤ i) × (i ≤ n) × (scanned (scan region) ≡ withRest words cut wrong unfit (scanned (scan (drop i region))))
 
 abbrev μ-scan : tie.MeasureT-scan
 μ-scan region n words₀ cut₀ wrong₀ unfit₀ i₀ words cut wrong unfit i = n - i
@@ -36,24 +36,24 @@ scan-holds c = (search needs, search needs, scanned-start _)
 marked-at-requires : tie.Need-marked-at-requires Inv-loop μ-loop Inv-scan μ-scan
 marked-at-requires c κs = search needs
 
-add-i : tie.Need-add-i Inv-loop μ-loop Inv-scan μ-scan
-add-i c = search needs
+onward-requires : tie.Need-onward-requires Inv-loop μ-loop Inv-scan μ-scan
+onward-requires c κs = search needs
 
 scan-less : tie.Need-scan-less Inv-loop μ-loop Inv-scan μ-scan
 scan-less c = search needs
 
 scan-again : tie.Need-scan-again Inv-loop μ-loop Inv-scan μ-scan
 scan-again c =
-    let s = c .before .before .before .scan in
-    let r = c .before .before .before .before .before .args .region .now in
-    let nothing = hereOf-nothing r (s .i) (sym (c .before .marked-at .ensures) ∙ not-true _ (c .if1 .taken)) in
-    (search needs, search needs, s .inv .2 ∙ scanned-nothing r (s .i) (c .before .before .scan-test .taken) (s .words) (s .cut) (s .wrong) (s .unfit) nothing)
+    let s = c .before .before .before .before .scan in
+    let nothing = hereOf-nothing _ (s .i) (sym (c .before .before .marked-at .ensures) ∙ not-true _ (c .before .if1 .taken)) in
+    let rest = scanned-nothing _ (s .i) (c .before .before .before .scan-test .taken) nothing ∙ c .onward .ensures .1 in
+    (search needs, search needs, s .inv .2 ∙ ap (withRest (s .words) (s .cut) (s .wrong) (s .unfit)) rest)
 
 sub-if2 : tie.Need-sub-if2 Inv-loop μ-loop Inv-scan μ-scan
 sub-if2 c = search needs
 
-add-i-2 : tie.Need-add-i-2 Inv-loop μ-loop Inv-scan μ-scan
-add-i-2 c = omega (arith, marked-room (c .before .before .before .before .before .before .args .region .now) (c .before .before .before .before .scan .i) (sym (c .before .before .marked-at .ensures) ∙ not-false _ (c .before .if1 .left)))
+add-i : tie.Need-add-i Inv-loop μ-loop Inv-scan μ-scan
+add-i c = omega (arith, marked-room (c .before .before .before .before .before .before .args .region .now) (c .before .before .before .before .scan .i) (sym (c .before .before .marked-at .ensures) ∙ not-false _ (c .before .if1 .left)))
 
 scan-less-2 : tie.Need-scan-less-2 Inv-loop μ-loop Inv-scan μ-scan
 scan-less-2 c = search needs
@@ -86,8 +86,8 @@ loop-holds c = (refl, refl, search needs, rw zero-add)
 sub-if3 : tie.Need-sub-if3 Inv-loop μ-loop Inv-scan μ-scan
 sub-if3 c = search needs
 
-add-i-3 : tie.Need-add-i-3 Inv-loop μ-loop Inv-scan μ-scan
-add-i-3 c = search needs
+add-i-2 : tie.Need-add-i-2 Inv-loop μ-loop Inv-scan μ-scan
+add-i-2 c = search needs
 
 scan-less-3 : tie.Need-scan-less-3 Inv-loop μ-loop Inv-scan μ-scan
 scan-less-3 c = search needs
@@ -131,8 +131,8 @@ loop-again c =
 sub-if4 : tie.Need-sub-if4 Inv-loop μ-loop Inv-scan μ-scan
 sub-if4 c = search needs
 
-add-i-4 : tie.Need-add-i-4 Inv-loop μ-loop Inv-scan μ-scan
-add-i-4 c = search needs
+add-i-3 : tie.Need-add-i-3 Inv-loop μ-loop Inv-scan μ-scan
+add-i-3 c = search needs
 
 scan-less-4 : tie.Need-scan-less-4 Inv-loop μ-loop Inv-scan μ-scan
 scan-less-4 c = search needs
@@ -166,11 +166,11 @@ add-words c = search needs
 add-words-2 : tie.Need-add-words-2 Inv-loop μ-loop Inv-scan μ-scan
 add-words-2 c = search needs
 
+add-i-4 : tie.Need-add-i-4 Inv-loop μ-loop Inv-scan μ-scan
+add-i-4 c = search needs
+
 add-i-5 : tie.Need-add-i-5 Inv-loop μ-loop Inv-scan μ-scan
 add-i-5 c = search needs
-
-add-i-6 : tie.Need-add-i-6 Inv-loop μ-loop Inv-scan μ-scan
-add-i-6 c = search needs
 
 scan-less-5 : tie.Need-scan-less-5 Inv-loop μ-loop Inv-scan μ-scan
 scan-less-5 c = search needs
@@ -209,11 +209,11 @@ scan-spec =
     μ-scan
     scan-holds
     marked-at-requires
-    add-i
+    onward-requires
     scan-less
     scan-again
     sub-if2
-    add-i-2
+    add-i
     scan-less-2
     scan-again-2
     add-last
@@ -223,7 +223,7 @@ scan-spec =
     add-last-2
     loop-holds
     sub-if3
-    add-i-3
+    add-i-2
     scan-less-3
     scan-again-3
     add-sum
@@ -234,7 +234,7 @@ scan-spec =
     loop-less
     loop-again
     sub-if4
-    add-i-4
+    add-i-3
     scan-less-4
     scan-again-4
     nine-requires
@@ -244,8 +244,8 @@ scan-spec =
     reserved-requires
     add-words
     add-words-2
+    add-i-4
     add-i-5
-    add-i-6
     scan-less-5
     scan-again-5
     returns)

@@ -6,14 +6,8 @@ use Rattle.reader.specs.Reader.{wordOf, ofHighByte}
 use Rattle.reader.proofs.Reader.of_high_byte.Statement.{statement}
 use Rattle.reader.proofs.Reader.of_high_byte.Tie as tie
 
-cast-word : tie.Need-cast-word
-cast-word c = search needs
-
-mul-word : tie.Need-mul-word
-mul-word c = search needs
-
-add-word : tie.Need-add-word
-add-word c = search needs
+word-of-requires : tie.Need-word-of-requires
+word-of-requires c κs = search needs
 
 refuse-requires : tie.Need-refuse-requires
 refuse-requires c κs = search needs
@@ -33,6 +27,7 @@ returns-2 c =
     let at = c .before .before .before .before .args in
     rw (
       c .end .ensures,
+      c .before .before .before .word-of .ensures,
       le-leb (wordOf (at .self .low) (at .byte)) 0x3ff (omega arith),
       lt-ltb (at .self .count .left) 2 (omega arith),
     )
@@ -53,6 +48,7 @@ returns-3 c =
     rw (
       c .bring .ensures,
       c .before .go-on .ensures,
+      c .before .before .before .before .word-of .ensures,
       le-leb (wordOf (at .self .low) (at .byte)) 0x3ff (omega arith),
       le-ltb (at .self .count .left) 2 (omega arith),
     )
@@ -61,9 +57,7 @@ pub of-high-byte-spec : {M : Type 1} → statement M
 of-high-byte-spec =
     tie.close
     (tie.spec
-    cast-word
-    mul-word
-    add-word
+    word-of-requires
     refuse-requires
     returns
     end-requires

@@ -1,72 +1,84 @@
 -- take_words: the words that are left, from here and after the word before, give what all give from the start.
-use mathlib.Core.Path.{_≡_, refl, sym, _∙_}
-use Prim.Native.Nat.{_-_, _≤_}
+use mathlib.Core.Path.{_≡_, refl, sym, ap, _∙_}
+use Prim.Native.Nat.{_+_, _-_, _≤_}
 use native.Mathlib.Omega.{arith}
 use lib.ListN.{length, drop}
 use borrow.Author.Needs.{needs}
 use Rattle.bits.specs.Bits.{wordBits}
 use Rattle.cable.specs.Words.{unscrambleWords}
+use Rattle.cable.proofs.Words.{unscramble-range}
 use Rattle.laying.specs.Laying.{laidBy}
 use Rattle.stepper.specs.Step.{run, steps}
-use Rattle.stepper.proofs.Stepping.{steps-words, steps-no-words}
+use Rattle.stepper.proofs.Blocks.{blocks-turn, blocks-end}
 use Rattle.stepper.proofs.State.take_words.Statement.{statement}
 use Rattle.stepper.proofs.State.take_words.Tie as tie
 
 abbrev Inv-loop : tie.InvT-loop
-Inv-loop raster total history words y₀ c₀ s₀ h₀ i₀ y c s h i =
+Inv-loop raster total history words y₀ c₀ block₀ s₀ h₀ i₀ y c block s h i =
     (i ≤ length words)
     × (length y ≡ length y₀)
     × (length c ≡ length c₀)
+    × (length block ≡ length block₀)
     × (steps laidBy raster total (wordBits (unscrambleWords history words)) (run s₀ y₀ c₀)
     ≡ steps laidBy raster total (wordBits (unscrambleWords h (drop i words))) (run s y c))
 
 abbrev μ-loop : tie.MeasureT-loop
-μ-loop raster total history words y₀ c₀ s₀ h₀ i₀ y c s h i = length words - i
+μ-loop raster total history words y₀ c₀ block₀ s₀ h₀ i₀ y c block s h i = length words - i
 
 loop-holds : tie.Need-loop-holds Inv-loop μ-loop
-loop-holds c = (search needs, refl, refl, refl)
+loop-holds c = (search needs, refl, refl, refl, refl)
 
-mul-w : tie.Need-mul-w Inv-loop μ-loop
-mul-w c = search needs
+slice-aggregate-unscramble-block : tie.Need-slice-aggregate-unscramble-block Inv-loop μ-loop
+slice-aggregate-unscramble-block c = search needs
 
-shared-slice-read-w : tie.Need-shared-slice-read-w Inv-loop μ-loop
-shared-slice-read-w c = search needs
+unscramble-block-requires : tie.Need-unscramble-block-requires Inv-loop μ-loop
+unscramble-block-requires c κs = search needs
 
-unscramble-word-requires : tie.Need-unscramble-word-requires Inv-loop μ-loop
-unscramble-word-requires c κs = search needs
+slice-aggregate-part : tie.Need-slice-aggregate-part Inv-loop μ-loop
+slice-aggregate-part c = search needs
 
-take-word-requires : tie.Need-take-word-requires Inv-loop μ-loop
-take-word-requires c κs = search needs
+part-requires : tie.Need-part-requires Inv-loop μ-loop
+part-requires c κs = search needs
+
+take-block-requires : tie.Need-take-block-requires Inv-loop μ-loop
+take-block-requires c κs = rw (c .before .before .part .ensures ∙ c .before .before .before .before .before .unscramble-block .ensures .1) (unscramble-range _ _)
 
 add-i : tie.Need-add-i Inv-loop μ-loop
-add-i c =
-    let test = c .before .before .before .before .before .before .before .before .before in
-    omega (arith, test .loop-test .taken, test .before .before .before .before .before .good)
+add-i c = omega (arith, c .before .before .before .before .before .before .before .before .before .before .unscramble-block .ensures .0, c .before .before .before .before .before .before .before .before .before .before .before .before .before .before .before .before .before .good)
+
+sub-h : tie.Need-sub-h Inv-loop μ-loop
+sub-h c = omega (arith, c .before .before .before .before .before .before .before .before .before .before .unscramble-block .ensures .0)
+
+mul-h : tie.Need-mul-h Inv-loop μ-loop
+mul-h c = omega (arith, c .before .before .before .before .before .before .before .before .before .before .unscramble-block .ensures .0, c .before .before .before .before .before .before .before .before .before .before .before .before .before .before .before .before .before .good)
+
+shared-slice-read-h : tie.Need-shared-slice-read-h Inv-loop μ-loop
+shared-slice-read-h c = omega (arith, c .before .before .before .before .before .before .before .before .before .before .before .unscramble-block .ensures .0)
 
 loop-less : tie.Need-loop-less Inv-loop μ-loop
-loop-less c = search needs
+loop-less c = omega (arith, c .before .before .before .before .before .before .before .before .before .before .before .unscramble-block .ensures .0)
 
 loop-again : tie.Need-loop-again Inv-loop μ-loop
 loop-again c =
-    let taken = c .before .before .before .before in
-    let word = taken .before .before .before in
-    let test = word .before .before in
-    let at = test .before .loop in (
+    let block = c .before .before .before .before .before .before .before .before .before .before .before .unscramble-block in
+    let at = c .before .before .before .before .before .before .before .before .before .before .before .before .before .before .loop in (
+      block .ensures .0 .1,
       search needs,
       search needs,
       search needs,
-      at .inv .3
-          ∙ steps-words laidBy _ _ (at .h) (at .i) _ (run (at .s) (at .y) (at .c)) (test .loop-test .taken) (word .unscramble-word .ensures) (taken .take-word .ensures),
+      at .inv .4
+          ∙ blocks-turn _ _ (at .h) (at .i) (block .result) (c .before .before .before .before .before .before .before .before .before .before .before .before .before .before .before .before .before .before .args .words .now) (run (at .s) (at .y) (at .c)) (block .ensures .0 .0) (block .ensures .0 .1)
+          (c .before .before .before .before .before .before .before .before .part .ensures ∙ block .ensures .1) (c .before .before .before .before .before .take-block .ensures),
     )
 
 same-length : tie.Need-same-length Inv-loop μ-loop
-same-length c = c .before .loop .inv .1
+same-length c = search needs
 
 same-length-2 : tie.Need-same-length-2 Inv-loop μ-loop
-same-length-2 c = c .before .loop .inv .2
+same-length-2 c = search needs
 
 returns : tie.Need-returns Inv-loop μ-loop
-returns c = sym (c .before .loop .inv .3 ∙ steps-no-words laidBy _ _ _ _ _ _ (c .loop-test .left))
+returns c = sym (c .before .loop .inv .4 ∙ blocks-end _ _ _ _ _ _ (c .loop-test .left))
 
 pub take-words-spec : {M : Type 1} → statement M
 take-words-spec =
@@ -75,11 +87,15 @@ take-words-spec =
     Inv-loop
     μ-loop
     loop-holds
-    mul-w
-    shared-slice-read-w
-    unscramble-word-requires
-    take-word-requires
+    slice-aggregate-unscramble-block
+    unscramble-block-requires
+    slice-aggregate-part
+    part-requires
+    take-block-requires
     add-i
+    sub-h
+    mul-h
+    shared-slice-read-h
     loop-less
     loop-again
     same-length

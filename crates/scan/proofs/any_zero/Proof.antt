@@ -1,0 +1,50 @@
+use mathlib.Core.Path.{_≡_, refl, sym, _∙_}
+use mathlib.Core.Bool.{Bool, _||_}
+use Prim.Native.Nat.{ℕ, _-_, _≤_}
+use native.Mathlib.Omega.{arith}
+use lib.Dec.{eqb}
+use lib.ListN.{length, drop}
+use borrow.Author.Needs.{needs}
+use Rattle.parts.specs.Parts.{any}
+use Rattle.parts.proofs.Comparing.{any-found-step, any-found-end}
+use Rattle.scan.proofs.any_zero.Statement.{statement}
+use Rattle.scan.proofs.any_zero.Tie as tie
+
+abbrev isZero : ℕ → Bool
+isZero w = eqb w 0
+
+abbrev Inv-loop : tie.InvT-loop
+Inv-loop words found₀ i₀ found i = (i ≤ length words) × ((found || any isZero (drop i words)) ≡ any isZero words)
+
+abbrev μ-loop : tie.MeasureT-loop
+μ-loop words found₀ i₀ found i = length words - i
+
+loop-holds : tie.Need-loop-holds Inv-loop μ-loop
+loop-holds c = (omega arith, refl)
+
+mul-found : tie.Need-mul-found Inv-loop μ-loop
+mul-found c = search needs
+
+shared-slice-read-found : tie.Need-shared-slice-read-found Inv-loop μ-loop
+shared-slice-read-found c = search needs
+
+add-i : tie.Need-add-i Inv-loop μ-loop
+add-i c = omega arith
+
+loop-less : tie.Need-loop-less Inv-loop μ-loop
+loop-less c = omega arith
+
+loop-again : tie.Need-loop-again Inv-loop μ-loop
+loop-again c =
+    let at = c .before .before .loop in
+    (omega arith, any-found-step isZero 0 (at .found) (at .i) _ (omega arith) ∙ at .inv .1)
+
+returns : tie.Need-returns Inv-loop μ-loop
+returns c =
+    let at = c .before .loop in
+    sym (any-found-end isZero (at .found) (at .i) _ (omega arith)) ∙ at .inv .1
+
+pub any-zero-spec : {M : Type 1} → statement M
+any-zero-spec =
+    tie.close
+    (tie.spec Inv-loop μ-loop loop-holds mul-found shared-slice-read-found add-i loop-less loop-again returns)

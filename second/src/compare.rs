@@ -14,7 +14,7 @@ mod request_shrinking;
 mod requests;
 mod tried;
 
-use crate::generate::{captures, cuts, files::file, frames::frames, Generator};
+use crate::generate::{captures, cuts, files::file, fixed, frames::frames, Generator};
 use crate::{decimal, vectors, Failure, USAGE};
 use command::Command;
 use std::io::Write;
@@ -78,6 +78,10 @@ fn files_of<'a>(words: &'a [&'a str]) -> Result<(Files, &'a [&'a str]), Failure>
             let file = cuts::file();
             let cut = move |place| (format!("cut {place}"), file[..place].to_vec());
             (Box::new((0..=cuts::file().len()).map(cut)), command)
+        }
+        ["fixed", command @ ..] => {
+            let made = |number| Some((format!("fixed {number}"), fixed::file(number)?));
+            (Box::new((0..fixed::count()).filter_map(made)), command)
         }
         _ => return Err(usage()),
     })

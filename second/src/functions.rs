@@ -18,6 +18,7 @@ pub const CRC_AFTER_WORD: u32 = 0x20;
 pub const CRC_CHECKED: u32 = 0x21;
 pub const CRC_WORDS: u32 = 0x22;
 pub const CRC_AFTER_WORDS: u32 = 0x23;
+pub const CRC_OF_BOTH: u32 = 0x24;
 
 pub const SCRAMBLE: u32 = 0x30;
 pub const UNSCRAMBLE: u32 = 0x31;
@@ -71,3 +72,4 @@ pub const READ_BYTES: u32 = 0x80;
 pub const DESK: u32 = 0x81;
 pub const TAKE: u32 = 0x82;
 pub const OUTCOME_LINE: u32 = 0x83;
+pub const READ_WORDS: u32 = 0x84;

@@ -1,8 +1,10 @@
 //! Random requests over every function, valid and damaged.
 
+mod alignments;
 pub mod camera;
 pub mod captures;
 mod channel_requests;
+mod code_feeds;
 mod codes;
 #[cfg(test)]
 mod coverage;
@@ -11,14 +13,19 @@ mod desk_requests;
 mod desks;
 mod faults;
 pub mod files;
+pub mod fixed;
 pub mod frames;
 #[cfg(test)]
 mod gate_coverage;
 mod lists;
+pub mod loads;
+mod long_sections;
 mod modules;
 mod packet_requests;
 mod picture;
 mod pieces;
+#[cfg(test)]
+mod place_coverage;
 mod rasters;
 mod regions;
 mod row_requests;
@@ -32,6 +39,10 @@ mod sights;
 pub mod signals;
 mod streams;
 mod syncs;
+#[cfg(test)]
+mod taking;
+#[cfg(test)]
+mod walk;
 #[cfg(test)]
 mod whole_desks;
 #[cfg(test)]
@@ -47,7 +58,7 @@ type Request = Vec<u32>;
 type Maker = fn(&mut Generator) -> Request;
 
 /// How often each function is asked for; the more there is to get wrong, the oftener.
-const MAKERS: [(u32, Maker); 63] = [
+const MAKERS: [(u32, Maker); 67] = [
     (2, Generator::all_words),
     (1, Generator::is_reserved),
     (1, Generator::with_bit_nine),
@@ -64,11 +75,13 @@ const MAKERS: [(u32, Maker); 63] = [
     (3, Generator::crc_checked),
     (2, Generator::crc_words),
     (2, Generator::crc_after_words),
+    (2, Generator::crc_of_both),
     (4, Generator::scramble),
     (4, Generator::unscramble),
     (6, Generator::find_sync),
     (2, Generator::scramble_word),
     (2, Generator::unscramble_word),
+    (2, Generator::unscramble_two),
     (1, Generator::xyz),
     (2, Generator::read_xyz),
     (3, Generator::line_words),
@@ -98,6 +111,7 @@ const MAKERS: [(u32, Maker); 63] = [
     (3, Generator::check_refusal),
     (7, Generator::begin),
     (44, Generator::feed),
+    (15, Generator::feed_with_a_code),
     (9, Generator::end),
     (14, Generator::module),
     (6, Generator::look),
@@ -108,15 +122,18 @@ const MAKERS: [(u32, Maker); 63] = [
     (2, Generator::verdict),
     (5, Generator::take_words),
     (3, Generator::read_bytes),
-    (4, Generator::desk),
-    (7, Generator::take),
+    (6, Generator::desk),
+    (9, Generator::take),
     (3, Generator::outcome_line),
+    (3, Generator::read_words),
 ];
 
 pub struct Generator {
     random: Random,
     /// The next of the lines that eleven bits can hold, taken in turn so that all of them come.
     line: u32,
+    /// Whose turn it is among the places of codes in feeds, so that all of them come.
+    turn: usize,
 }
 
 impl Generator {
@@ -124,6 +141,7 @@ impl Generator {
         Self {
             random: Random::new(seed),
             line: 0,
+            turn: 0,
         }
     }
 
@@ -143,6 +161,11 @@ impl Generator {
         let line = self.line;
         self.line = (line + 1) % 2048;
         line
+    }
+
+    fn next_turn(&mut self) -> usize {
+        self.turn += 1;
+        self.turn
     }
 
     fn all_words(&mut self) -> Request {
@@ -264,6 +287,17 @@ impl Generator {
         ])
     }
 
+    /// As many words in both channels, one more or less, or each its own number.
+    fn crc_of_both(&mut self) -> Request {
+        let random = &mut self.random;
+        let (y, mut c) = (lists::words(random), lists::words(random));
+        let length = random.pick(&[y.len(), y.len(), y.len() + 1, y.len().saturating_sub(1)]);
+        if random.bit() {
+            c.resize(length, lists::any_word(random));
+        }
+        request(&[&[CRC_OF_BOTH], &list(&y), &list(&c)])
+    }
+
     fn scramble(&mut self) -> Request {
         self.scrambler(SCRAMBLE)
     }
@@ -298,6 +332,12 @@ impl Generator {
             history.into(),
             lists::any_word(&mut self.random).into(),
         ]
+    }
+
+    /// Two words, which are often taken together.
+    fn unscramble_two(&mut self) -> Request {
+        let [history, first, second] = [(); 3].map(|()| lists::any_word(&mut self.random).into());
+        vec![UNSCRAMBLE, history, 2, first, second, 2, 0, 0]
     }
 
     fn xyz(&mut self) -> Request {

@@ -28,16 +28,19 @@ mod timing;
 mod vectors;
 mod words;
 
-use generate::{cuts, files, frames};
+use generate::{cuts, files, fixed, frames, loads};
+use refusal::Refusal;
 use std::env;
 use std::io::{self, stdin, stdout, BufRead, BufWriter, ErrorKind, Write};
 use std::process::ExitCode;
 
 const USAGE: &str =
     "usage: second answer | requests SEED COUNT | vectors | bench | file SEED | kinds COUNT \
-     | frames RASTER COUNT SEED | cuts | cut PLACE | captures | capture NAME \
+     | frames RASTER COUNT SEED | flipped RASTER COUNT SEED | slipped RASTER COUNT SEED | noise COUNT SEED | dead COUNT | jobs COUNT SEED \
+     | cuts | cut PLACE | fixed | fixed NUMBER | captures | capture NAME \
      | compare requests SEED COUNT COMMAND.. | compare vectors COMMAND.. | compare files FIRST LAST COMMAND.. \
-     | compare captures COMMAND.. | compare frames COMMAND.. | compare cuts COMMAND..";
+     | compare captures COMMAND.. | compare frames COMMAND.. | compare cuts COMMAND.. \
+     | compare fixed COMMAND..";
 
 /// Why the program ends early.
 enum Failure {
@@ -76,12 +79,19 @@ fn run(arguments: &[&str]) -> Result<(), Failure> {
         ["bench"] => bench::bench(stdin().lock(), &mut output)?,
         ["file", seed] => output.write_all(&files::file(decimal(seed)?).bytes)?,
         ["kinds", count] => print_kinds(&mut output, decimal(count)?)?,
-        ["frames", raster, count, seed] => {
-            output.write_all(&frames(raster, decimal(count)?, decimal(seed)?)?)?
+        ["frames", words @ ..] => output.write_all(&frames(frames::frames, words)?)?,
+        ["flipped", words @ ..] => output.write_all(&frames(frames::flipped, words)?)?,
+        ["slipped", words @ ..] => output.write_all(&frames(frames::slipped, words)?)?,
+        ["noise", count, seed] => {
+            output.write_all(&loads::noise(decimal(count)?, decimal(seed)?))?
         }
+        ["dead", count] => output.write_all(&loads::dead(decimal(count)?))?,
+        ["jobs", count, seed] => output.write_all(&loads::jobs(decimal(count)?, decimal(seed)?))?,
         ["compare", words @ ..] => compare::compare(words, &mut output)?,
         ["cuts"] => writeln!(output, "{}", cuts::file().len())?,
         ["cut", place] => output.write_all(&cut(place)?)?,
+        ["fixed"] => writeln!(output, "{}", fixed::count())?,
+        ["fixed", number] => output.write_all(&fixed_file(number)?)?,
         ["captures"] => print_captures(&mut output)?,
         ["capture", name] => output.write_all(&capture(name)?)?,
         _ => return Err(Failure::Message(USAGE.to_string())),
@@ -130,10 +140,16 @@ fn print_kinds(output: &mut impl Write, count: u64) -> io::Result<()> {
     Ok(())
 }
 
-fn frames(raster: &str, count: u64, seed: u64) -> Result<Vec<u8>, Failure> {
+/// A maker of frames, of a raster's code, how many, and a seed.
+type Maker = fn(u32, u64, u64) -> Result<Vec<u8>, Refusal>;
+
+fn frames(maker: Maker, words: &[&str]) -> Result<Vec<u8>, Failure> {
+    let [raster, count, seed] = words else {
+        return Err(Failure::Message(USAGE.to_string()));
+    };
     let message = || Failure::Message(format!("there is no raster '{raster}'; {USAGE}"));
     let code = decimal(raster)?.try_into().map_err(|_| message())?;
-    frames::frames(code, count, seed).map_err(|_| message())
+    maker(code, decimal(count)?, decimal(seed)?).map_err(|_| message())
 }
 
 /// The first bytes of the file of cuts.
@@ -146,6 +162,12 @@ fn cut(place: &str) -> Result<Vec<u8>, Failure> {
     }
     file.truncate(count as usize);
     Ok(file)
+}
+
+fn fixed_file(number: &str) -> Result<Vec<u8>, Failure> {
+    let message = || Failure::Message(format!("there is no fixed file '{number}'; {USAGE}"));
+    let place = decimal(number)?.try_into().ok();
+    place.and_then(fixed::file).ok_or_else(message)
 }
 
 fn print_captures(output: &mut impl Write) -> io::Result<()> {

@@ -1,6 +1,6 @@
 //! Answers requests: each calls one function once.
 
-mod desks;
+pub mod desks;
 mod packets;
 mod rows;
 mod session_parts;
@@ -36,6 +36,7 @@ fn call(arguments: &mut Arguments) -> Answer {
         ALL_WORDS..=LAY_TIMES => call_words(function, arguments),
         RASTER_ROW..=V_AND_F => call_raster(function, arguments),
         CRC_AFTER_WORD..=CRC_AFTER_WORDS => call_crc(function, arguments),
+        CRC_OF_BOTH => Ok(crc::of_both([&arguments.list()?, &arguments.list()?]).to_vec()),
         SCRAMBLE | UNSCRAMBLE => call_scrambler(function, arguments),
         FIND_SYNC..=UNSCRAMBLE_WORD => call_cable(function, arguments),
         XYZ..=READ_LINE => call_timing(function, arguments),
@@ -44,7 +45,7 @@ fn call(arguments: &mut Arguments) -> Answer {
         CHECK_ROW..=CHECK_REFUSAL => rows::call(function, arguments),
         BEGIN..=MODULE => sessions::call(function, arguments),
         LOOK..=TAKE_WORDS => session_parts::call(function, arguments),
-        READ_BYTES..=OUTCOME_LINE => desks::call(function, arguments),
+        READ_BYTES..=READ_WORDS => desks::call(function, arguments),
         _ => unknown(function),
     }
 }

@@ -110,6 +110,19 @@ fn crc() -> Vec<Vector> {
         vector(&[CRC_CHECKED, 0, 1, 0x200], &[0, 0x23000]),
         vector(&[CRC_AFTER_WORDS, 0, 1, 0x200], &[0x23000]),
         vector(&[CRC_WORDS, 0x23000], &[0, 0x200, 0x118]),
+        vector(&[CRC_OF_BOTH, 0, 0], &[0, 0]),
+        vector(&[CRC_OF_BOTH, 1, 0x200, 0], &[0x23000, 0]),
+        vector(&[CRC_OF_BOTH, 0, 1, 0x600], &[0, 0x23000]),
+        vector(&[CRC_OF_BOTH, 1, 0x3ff, 1, 0x200], &[0x3df08, 0x23000]),
+        // Words of zeros leave a register of zeros.
+        vector(
+            &[CRC_OF_BOTH, 3, 0, 0, 0x200, 2, 0, 0x3ff],
+            &[0x23000, 0x3df08],
+        ),
+        vector(
+            &[CRC_OF_BOTH, 2, 0, 0x200, 5, 0, 0, 0, 0, 0x3ff],
+            &[0x23000, 0x3df08],
+        ),
     ]
 }
 

@@ -2,7 +2,8 @@
 
 use super::bench;
 use crate::generate::captures::{capture, names};
-use crate::generate::frames::frames;
+use crate::generate::frames::{flipped, frames, slipped};
+use crate::generate::loads::{dead, jobs, noise};
 
 const PRINTED: [(&str, &str); 4] = [
     (
@@ -55,4 +56,37 @@ fn frames_pass() {
         assert!(printed.ends_with(line), "{printed}");
     }
     assert!(frames(12, 1, 1).is_err());
+}
+
+#[test]
+fn a_bit_flipped_in_each_row_is_a_fault_of_each() {
+    let file = flipped(1, 1, 2).expect("there is such a raster");
+    let printed = printed(&file);
+    let line = " raster 1 rows 750 faults 750 FAIL\n";
+    assert!(printed.ends_with(line), "{printed}");
+    assert_eq!(file.len(), frames(1, 1, 2).expect("as above").len());
+}
+
+#[test]
+fn a_bit_lost_in_each_row_drops_each() {
+    let file = slipped(1, 1, 2).expect("there is such a raster");
+    let printed = printed(&file);
+    let line = " raster 1 rows 0 faults 751 FAIL\n";
+    assert!(printed.ends_with(line), "{printed}");
+}
+
+#[test]
+fn noise_and_a_dead_cable_have_no_sync() {
+    let line = " raster 7 rows 0 faults 0 NO SIGNAL\n";
+    for file in [noise(100_000, 1), dead(100_000)] {
+        let printed = printed(&file);
+        assert!(printed.ends_with(line), "{printed}");
+    }
+}
+
+#[test]
+fn many_jobs_have_a_line_each() {
+    let file = jobs(300, 1);
+    assert_eq!(printed(&file).lines().count(), 300);
+    assert!(file.len() < 300 * 1100);
 }

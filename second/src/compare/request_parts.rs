@@ -109,7 +109,7 @@ fn arguments(function: u32) -> Option<&'static [Kind]> {
     use Kind::{Carry, List, Number, Runs};
     Some(match function {
         ALL_WORDS | ANY_RESERVED | FIND_SYNC => &[List],
-        SAME => &[List, List],
+        SAME | CRC_OF_BOTH => &[List, List],
         STORE | PART => &[List, Number, Number],
         LAY => &[List, Number, List],
         LAY_TIMES => &[List, Number, Number, Number],
@@ -157,6 +157,8 @@ fn arguments_of_sessions(function: u32) -> Option<&'static [Kind]> {
         TAKE => &[
             Number, Number, Number, Number, Number, List, Session, Bytes, Runs, Runs,
         ],
+        // A READER, then what is lent.
+        READ_WORDS => &[Number, Number, Number, Number, Number, List, List, List],
         // An OUTCOME.
         OUTCOME_LINE => &[Number, Number, List, Number, Number, Number, Number, Number],
         _ => return None,

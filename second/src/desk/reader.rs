@@ -105,6 +105,22 @@ impl Reader {
         }
     }
 
+    /// Reads whole words at once, all but the section's last, refusing none: as many as the bytes have and the output has
+    /// places for. Answers how many.
+    pub fn read_words(&mut self, bytes: &[u8], output: &mut [u16]) -> usize {
+        let before_last = match self.stage {
+            Stage::Low => self.left - 1,
+            _ => 0,
+        };
+        let (words, _) = bytes.as_chunks();
+        let count = words.len().min(output.len()).min(before_last as usize);
+        for (place, &word) in output.iter_mut().zip(words).take(count) {
+            *place = u16::from_le_bytes(word);
+        }
+        self.left -= count as u32;
+        count
+    }
+
     fn read(&mut self, byte: u8) -> Result<Piece, Refusal> {
         match self.stage {
             Stage::TagCount | Stage::OptionCount | Stage::WordCount => self.read_count(byte)?,
@@ -186,5 +202,36 @@ impl Reader {
         refuse(&[(Refusal::Word, !is_word(word))])?;
         self.await_word(self.left - 1);
         Ok(Piece::Word(word))
+    }
+}
+
+#[cfg(test)]
+mod tests {
+    use super::*;
+
+    /// "as if the 2n bytes had been read one by one"
+    #[test]
+    fn words_at_once_leave_the_reader_as_one_by_one() {
+        let bytes = [0xff, 0x03, 0x01, 0x00, 0x55, 0x01, 0x00];
+        for left in 1..6 {
+            let at_start = Reader {
+                stage: Stage::Low,
+                left,
+                tag: b"A".to_vec(),
+                ..Reader::default()
+            };
+            let (mut at_once, mut one_by_one) = (at_start.clone(), at_start);
+            let mut output = [0xfade; 4];
+            let count = at_once.read_words(&bytes, &mut output);
+            assert_eq!(count, 3.min(left as usize - 1));
+            let pieces = bytes[..2 * count].iter().map(|&byte| one_by_one.take(byte));
+            let words = pieces.filter_map(|(piece, _)| match piece {
+                Piece::Word(word) => Some(word),
+                _ => None,
+            });
+            assert!(words.eq(output[..count].iter().copied()));
+            assert!(output[count..].iter().all(|&word| word == 0xfade));
+            assert_eq!(at_once, one_by_one);
+        }
     }
 }

@@ -13,14 +13,18 @@ use crate::random::Random;
 use crate::requests::{answer, format_line};
 use std::sync::OnceLock;
 
-const COUNT: usize = 10_000;
+/// Half of those of the gate.
+const COUNT: usize = 20_000;
 
 /// Requests of the functions that a test asks about.
 pub fn requests(functions: &[u32]) -> Vec<Vec<u32>> {
     static ALL: OnceLock<Vec<Vec<u32>>> = OnceLock::new();
     let all = ALL.get_or_init(|| {
-        let mut generator = Generator::new(1);
-        (0..COUNT).map(|_| generator.request()).collect()
+        let of_seed = |seed| {
+            let mut generator = Generator::new(seed);
+            (0..COUNT / 2).map(move |_| generator.request())
+        };
+        [1, 2].into_iter().flat_map(of_seed).collect()
     });
     let asked = all.iter();
     asked

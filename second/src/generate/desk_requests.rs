@@ -1,12 +1,15 @@
 //! Requests for the functions of a bench file.
 
-use super::desks::{buffers, lent, shorten, Lent};
+use super::desks::{self, buffers, lent, shorten, Lent};
 use super::files::{short_file, tag};
+use super::long_sections::{across, marked, CODE, RUN};
 use super::row_requests::both;
-use super::{list, request, signals, streams, Generator, Request};
+use super::{list, lists, request, signals, streams, Generator, Request};
+use crate::cable::SYNC_BITS;
 use crate::functions::*;
 use crate::job::Job;
 use crate::random::Random;
+use crate::words::WORD_BITS;
 
 /// A file in a request has at most so many bytes.
 const MOST_BYTES: usize = 14_000;
@@ -25,12 +28,12 @@ impl Generator {
 
     pub(super) fn desk(&mut self) -> Request {
         let random = &mut self.random;
-        let file = match random.below(25) {
-            0 => file_with_rows(random),
-            1 => any_file(random, 2000),
-            _ => any_file(random, 60),
+        let (file, lengths) = match random.below(25) {
+            0 => cut_anywhere(random, file_with_rows),
+            1 => cut_anywhere(random, |random| any_file(random, 2000)),
+            2 | 3 => about_a_run(random),
+            _ => cut_anywhere(random, |random| any_file(random, 60)),
         };
-        let lengths = lengths(random, file.len());
         let mut buffers = buffers(random);
         if random.one_in(10) {
             shorten(random, &mut buffers);
@@ -47,6 +50,22 @@ impl Generator {
         } = lent(&mut self.random);
         let desk = [&reader.numbers()[..], &numbers.list()].concat();
         request(&[&[TAKE], &desk, &byte_list(&bytes), &both(&buffers)])
+    }
+
+    /// Words of any number below 2^16, the last of them now and then without its high byte.
+    pub(super) fn read_words(&mut self) -> Request {
+        let random = &mut self.random;
+        let count = lists::length(random);
+        let reader = desks::reader(random, count as u32);
+        let mut bytes: Vec<u8> = (0..count)
+            .flat_map(|_| lists::any_word(random).to_le_bytes())
+            .collect();
+        if random.one_in(3) {
+            bytes.pop();
+        }
+        let output = lists::output(random, count);
+        let lent = [byte_list(&bytes), list(&output)].concat();
+        request(&[&[READ_WORDS], &reader.numbers(), &lent])
     }
 
     pub(super) fn outcome_line(&mut self) -> Request {
@@ -84,13 +103,24 @@ fn file_with_rows(random: &mut Random) -> Vec<u8> {
     file
 }
 
+/// A file, and how many bytes each take but the last is lent.
+fn cut_anywhere(random: &mut Random, file: fn(&mut Random) -> Vec<u8>) -> (Vec<u8>, Vec<u16>) {
+    let file = file(random);
+    let lengths = lengths(random, file.len());
+    (file, lengths)
+}
+
 /// How many bytes each take but the last is lent: none, one, a few, more than there are.
 fn lengths(random: &mut Random, bytes: usize) -> Vec<u16> {
-    let count = random.place(6);
+    let count = 1 + random.place(8);
     match random.below(6) {
         0 => Vec::new(),
         1 => vec![1; random.place(bytes.min(80) + 1)],
         2 => vec![0xffff; count],
+        3 => {
+            let first = random.place(bytes + 1);
+            few_from(random, first)
+        }
         _ => {
             let length = |random: &mut Random| {
                 let any = random.place(bytes + 1) as u16;
@@ -99,6 +129,36 @@ fn lengths(random: &mut Random, bytes: usize) -> Vec<u16> {
             (0..count).map(|_| length(random)).collect()
         }
     }
+}
+
+/// Takes up to a place, then of a few bytes each, also halves of words.
+fn few_from(random: &mut Random, first: usize) -> Vec<u16> {
+    let few = (0..random.below(12)).map(|_| random.short(1, 11));
+    [first as u16].into_iter().chain(few).collect()
+}
+
+/// A section of about a run of words or two, a take that ends about where they do, and perhaps a bad word or a cut there.
+fn about_a_run(random: &mut Random) -> (Vec<u8>, Vec<u16>) {
+    let end = random.pick(&[RUN, RUN, RUN, 2 * RUN]);
+    let count = end + random.place(6) - 2;
+    let last = count * WORD_BITS - random.pick(&[SYNC_BITS, CODE, 300]);
+    let before = random.place(CODE);
+    let mut words = marked(count, &[random.place(60), across(end, before), last]);
+    let places = [0, end - 2, end - 1, end, count - 2, count - 1];
+    if random.one_in(3) {
+        let place = random.pick(&places).min(count - 1);
+        words[place] = lists::above(random);
+    }
+    let mut file = Job::new(&tag(random), 5, random.bit(), words).bytes();
+    let start = file.len() - 2 * count;
+    let near = start + 2 * random.pick(&places) + random.place(4);
+    if random.one_in(4) {
+        file.truncate(near);
+    } else if random.bit() {
+        file.extend(short_file(random, 5));
+    }
+    let some = few_from(random, near);
+    (file, random.pick(&[&[][..], &some]).to_vec())
 }
 
 /// Nothing, a refusal, or a job: any tag, and counts of any number of digits.

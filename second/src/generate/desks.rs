@@ -1,8 +1,9 @@
 //! How far desks have read, the sessions that they have, and what they are lent.
 
 use super::files::{short_file, tag};
+use super::long_sections::RUN;
 use super::session_requests::{any_feed, Feed};
-use super::{lists, sessions, signals};
+use super::{code_feeds, lists, sessions, signals};
 use crate::desk::{Desk, Reader, Stage, STAGES};
 use crate::random::Random;
 use crate::session::Numbers;
@@ -84,11 +85,14 @@ fn readings(file: &[u8], buffers: &mut [Vec<u16>; 2]) -> Vec<(Desk, usize)> {
 fn in_a_job(random: &mut Random) -> Lent {
     let Feed {
         numbers,
-        words,
+        mut words,
         mut buffers,
-    } = any_feed(random);
-    let mut words = signals::scrambled_words(numbers.history, &words);
+    } = feed_of_a_job(random);
     words.truncate(2000);
+    if random.one_in(20) {
+        lengthen(random, &mut words);
+    }
+    let mut words = signals::scrambled_words(numbers.history, &words);
     if random.one_in(6) {
         lists::damage(random, &mut words);
     }
@@ -118,6 +122,23 @@ fn in_a_job(random: &mut Random) -> Lent {
     }
 }
 
+fn feed_of_a_job(random: &mut Random) -> Feed {
+    if random.one_in(3) {
+        code_feeds::any_feed(random)
+    } else {
+        any_feed(random)
+    }
+}
+
+/// About as many as a run takes, by pairs before them that are all the same.
+fn lengthen(random: &mut Random, words: &mut Vec<u16>) {
+    let count = RUN - 1 + random.place(5);
+    let more = count.saturating_sub(words.len());
+    let pair = signals::pair(random);
+    let pairs = pair.into_iter().rev().cycle().take(more);
+    words.splice(0..0, pairs);
+}
+
 /// A reader of a job that has this session, before the count of its words.
 fn before_words(random: &mut Random, numbers: &Numbers) -> Reader {
     let raster = numbers.raster as u8;
@@ -126,6 +147,32 @@ fn before_words(random: &mut Random, numbers: &Numbers) -> Reader {
     Reader {
         stage: Stage::WordCount,
         raster: random.pick(&[raster, asked]),
+        wipe: random.bit(),
+        tag: tag(random).into_bytes(),
+        ..Reader::default()
+    }
+}
+
+/// How far a desk has read that is lent so many words: mostly to a word of which about as many are left.
+pub fn reader(random: &mut Random, lent: u32) -> Reader {
+    if random.one_in(4) {
+        return in_a_file(random).reader;
+    }
+    let any = random.number().max(1);
+    let few = random.between(1, 3);
+    let about = [
+        few,
+        lent.max(1),
+        lent + 1,
+        lent + 1,
+        lent + 2,
+        any,
+        u32::MAX,
+    ];
+    Reader {
+        stage: Stage::Low,
+        left: random.pick(&about),
+        raster: random.below(12) as u8,
         wipe: random.bit(),
         tag: tag(random).into_bytes(),
         ..Reader::default()

@@ -17,9 +17,9 @@ pub struct Parts {
 pub fn spoil_row(random: &mut Random, row: &mut Row) {
     for _ in 0..faults(random) {
         let words = &mut row.words[random.place(2)];
-        match random.below(5) {
+        match random.below(6) {
             0 => change_length(random, words),
-            1 => put_above(random, words),
+            1 | 2 => put_above(random, words),
             _ => spoil_head(random, &mut row.head),
         }
     }

@@ -104,7 +104,11 @@ pub fn file(seed: u64) -> File {
 /// A bad job of at most so many words, and perhaps another job.
 fn bad_end(random: &mut Random, most: usize, notes: &mut Notes) -> Vec<u8> {
     let job = rowless_job(random, most);
-    let bad = bad_jobs::bad_job(random, job, notes);
+    let faults = match most {
+        SHORT.. => bad_jobs::all(),
+        _ => bad_jobs::of_few_words(),
+    };
+    let bad = bad_jobs::bad_job(random, job, &faults, notes);
     let mut bytes = bad.bytes();
     // Of the jobs after it nothing is read.
     if !bad.is_cut() && random.bit() {
@@ -171,7 +175,7 @@ fn in_two(random: &mut Random, mut module: Module, notes: &mut Notes) -> Vec<Mod
 }
 
 /// A job without rows, of at most so many words.
-fn rowless_job(random: &mut Random, most: usize) -> Job {
+pub fn rowless_job(random: &mut Random, most: usize) -> Job {
     let (_, mut module) = rowless::any(random);
     module.words.truncate(most);
     job_of(random, module)

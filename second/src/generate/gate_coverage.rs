@@ -11,7 +11,7 @@ const SEEDS: RangeInclusive<u64> = 1..=4;
 const COUNT: usize = 10_000;
 
 /// The functions that are asked for inside of others too.
-const INNER: [u32; 22] = [
+const INNER: [u32; 24] = [
     ANY_RESERVED,
     LAY_TIMES,
     ACTIVE_REGION,
@@ -34,6 +34,8 @@ const INNER: [u32; 22] = [
     DESK,
     TAKE,
     OUTCOME_LINE,
+    CRC_OF_BOTH,
+    READ_WORDS,
 ];
 
 /// A request and its answer.
@@ -94,7 +96,7 @@ fn about_a_fifth_of_the_requests_are_of_inner_functions() {
     assert!((requests * 17 / 100..requests * 23 / 100).contains(&all().len()));
     for function in INNER {
         let come = all().iter().filter(|(request, _)| request[0] == function);
-        assert!(come.count() >= 100, "{function:x}");
+        assert!(come.count() >= 80, "{function:x}");
     }
 }
 
@@ -248,7 +250,7 @@ fn every_outcome_comes_at_a_desk() {
         "verdict 2",
         "verdict 3",
     ];
-    assert_come(&desks, &wanted.map(String::from), 10);
+    assert_come(&desks, &wanted.map(String::from), 5);
     assert_come(&desks, &each("rows", [1]), 2);
 }
 
@@ -275,6 +277,69 @@ fn every_stage_is_lent_bytes_with_every_outcome() {
         assert_come(&takes, &each(&format!("stage {stage} refusal"), [7]), 10);
     }
     assert_come(&takes, &each("refused with", [3, 4, 9]), 10);
+}
+
+/// How many words two lists of a request have, the first of which starts at this place.
+fn lengths(request: &[u32], place: usize) -> [u32; 2] {
+    [request[place], request[place + 1 + request[place] as usize]]
+}
+
+#[test]
+fn channels_of_every_length_come() {
+    let channels = tally(CRC_OF_BOTH, |request, _| {
+        let [y, c] = lengths(request, 1);
+        let above = request.iter().any(|&word| word > 0x3ff);
+        vec![
+            format!("{:?}", y.cmp(&c)),
+            format!("odd {} {}", y % 2, c % 2),
+            format!("empty {} {}", y == 0, c == 0),
+            format!("above {above}"),
+        ]
+    });
+    assert_come(
+        &channels,
+        &["Less", "Equal", "Greater"].map(String::from),
+        20,
+    );
+    let odd = ["odd 0 0", "odd 0 1", "odd 1 0", "odd 1 1"];
+    assert_come(&channels, &odd.map(String::from), 20);
+    let empty = ["empty true true", "empty true false", "empty false true"];
+    assert_come(&channels, &empty.map(String::from), 3);
+    assert_come(
+        &channels,
+        &["above false", "above true"].map(String::from),
+        20,
+    );
+}
+
+/// Each of the three that say how many words are read is the least, alone and with others.
+#[test]
+fn words_are_read_up_to_each_limit() {
+    let reads = tally(READ_WORDS, |request, answer| {
+        let [stage, left, tag] = [request[1], request[2], request[6]];
+        let [bytes, places] = lengths(request, 7 + tag as usize);
+        let count = answer[0];
+        let limits = [left.saturating_sub(1), bytes / 2, places].map(|limit| limit == count);
+        vec![
+            format!("stage {stage}"),
+            format!("stage {stage}, limits {limits:?}, some {}", count > 0),
+            format!("stage {stage}, odd bytes {}", bytes % 2),
+        ]
+    });
+    assert_come(&reads, &each("stage", 0..=8), 2);
+    for limits in [
+        [true, false, false],
+        [false, true, false],
+        [false, false, true],
+        [true; 3],
+    ] {
+        assert_come(
+            &reads,
+            &[format!("stage 6, limits {limits:?}, some true")],
+            10,
+        );
+    }
+    assert_come(&reads, &each("stage 6, odd bytes", 0..=1), 20);
 }
 
 #[test]

@@ -97,15 +97,16 @@ pub fn words(random: &mut Random) -> Vec<u16> {
     words
 }
 
-/// Puts one or two numbers above 3FF, often at the first or the last place.
+/// Puts one or two numbers above 3FF, often at the first, the last or the last but one place.
 pub fn damage(random: &mut Random, words: &mut [u16]) {
     if words.is_empty() {
         return;
     }
     for _ in 0..random.between(1, 2) {
-        let place = match random.below(4) {
+        let place = match random.below(5) {
             0 => 0,
             1 => words.len() - 1,
+            2 => words.len().saturating_sub(2),
             _ => random.place(words.len()),
         };
         words[place] = above(random);

@@ -3,10 +3,12 @@
 use super::streams;
 use super::{list, lists, rasters, request, signals, Request};
 use crate::arguments::MOST_FED;
+use crate::cable::{is_sync, SYNC_BITS};
 use crate::functions::MODULE;
 use crate::random::Random;
 use crate::raster::raster_of;
 use crate::runs::{self, runs};
+use crate::words::WORD_BITS;
 
 /// How many numbers a request has at most: few, or now and then so many as a row of any words takes.
 const FEW: usize = 1500;
@@ -39,7 +41,7 @@ fn any_module(random: &mut Random, most: usize) -> Request {
     words.truncate(MOST_FED);
     let as_on_cable = words.len() < SHORT_STREAM || words.len() < most / 2 && random.one_in(3);
     let signal = signal(random, &mut words, as_on_cable);
-    let lengths = lengths(random, words.len());
+    let lengths = lengths(random, &bits, words.len());
     let [y, c] = buffers(random, code).map(|buffer| runs(&buffer));
     request(&[&[MODULE, code], &list(&lengths), &signal, &y, &c])
 }
@@ -62,9 +64,12 @@ fn signal(random: &mut Random, words: &mut [u16], as_on_cable: bool) -> Vec<u32>
 }
 
 /// The words of each feed but the last, none for some.
-fn lengths(random: &mut Random, count: usize) -> Vec<u16> {
+fn lengths(random: &mut Random, bits: &[bool], count: usize) -> Vec<u16> {
     if random.one_in(20) {
         return vec![1; count.min(random.place(60))];
+    }
+    if random.one_in(3) {
+        return few_about_a_sync(random, bits, count);
     }
     let mut places: Vec<usize> = (0..random.below(6))
         .map(|_| random.place(count + 1))
@@ -76,6 +81,32 @@ fn lengths(random: &mut Random, count: usize) -> Vec<u16> {
     let starts = std::iter::once(0).chain(places.iter().copied());
     let lengths = starts.zip(&places).map(|(start, &end)| end - start);
     lengths.map(|length| length as u16).collect()
+}
+
+/// A feed up to a few words before a sync ends, or amid what comes after it, then some of one to five words.
+fn few_about_a_sync(random: &mut Random, bits: &[bool], count: usize) -> Vec<u16> {
+    let windows = bits.windows(SYNC_BITS).enumerate();
+    let syncs = windows.filter(|(_, window)| is_sync(window));
+    let ends: Vec<usize> = syncs.map(|(place, _)| place + SYNC_BITS).collect();
+    let any = random.place(bits.len() + 1);
+    let end = match &ends[..] {
+        [] => any,
+        ends if random.one_in(4) => random.pick(&[any, ends[0]]),
+        ends => random.pick(ends),
+    };
+    let first = (end / WORD_BITS + 4).saturating_sub(random.place(18));
+    let mut left = count;
+    let mut lengths = vec![first];
+    let one = random.between(1, 5) as usize;
+    for _ in 0..random.between(1, 12) {
+        let any = random.between(1, 5) as usize;
+        lengths.push(random.pick(&[one, any]));
+    }
+    for length in &mut lengths {
+        *length = left.min(*length);
+        left -= *length;
+    }
+    lengths.into_iter().map(|length| length as u16).collect()
 }
 
 /// Buffers of T words or more, seldom of less.

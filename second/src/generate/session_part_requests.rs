@@ -89,7 +89,7 @@ impl Generator {
 /// Now and then no line is known, or another.
 fn expect_another(random: &mut Random, line: &mut u32, code: u32) {
     let rows = raster_of(code).expect("the code is of the table").rows;
-    if random.one_in(3) {
+    if random.bit() {
         *line = random.pick(&[0, 0, 0, 1, rows - 1, rows]);
     }
 }

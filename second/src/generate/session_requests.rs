@@ -2,7 +2,8 @@
 
 use super::rows::{head, row, Row};
 use super::sessions::{self, alter, begun, in_a_row, out_of_range, run};
-use super::{codes, lists, modules, pieces, rasters, regions, request, signals, streams};
+use super::{code_feeds, codes, lists, modules, pieces, rasters, regions, request};
+use super::{signals, streams};
 use super::{Generator, Request};
 use crate::functions::*;
 use crate::layout::{LINE, Y};
@@ -26,7 +27,7 @@ impl Generator {
         let random = &mut self.random;
         let numbers = match random.below(6) {
             0 => sessions::closed(random),
-            1 => out_of_range(random),
+            1 | 2 => out_of_range(random),
             _ => sessions::open(random),
         };
         request(&[&[END], &numbers.list()])
@@ -34,6 +35,11 @@ impl Generator {
 
     pub(super) fn feed(&mut self) -> Request {
         any_feed(&mut self.random).request(&mut self.random)
+    }
+
+    pub(super) fn feed_with_a_code(&mut self) -> Request {
+        let turn = self.next_turn();
+        code_feeds::feed(&mut self.random, turn).unspoilt(&mut self.random)
     }
 
     pub(super) fn module(&mut self) -> Request {
@@ -56,6 +62,11 @@ impl Feed {
         if random.one_in(8) {
             self.spoil(random);
         }
+        self.unspoilt(random)
+    }
+
+    /// One that is not refused.
+    fn unspoilt(mut self, random: &mut Random) -> Request {
         let to_scramble = self.scramble(random);
         self.of(FEED, to_scramble)
     }
@@ -113,8 +124,9 @@ impl Feed {
 }
 
 pub fn any_feed(random: &mut Random) -> Feed {
-    match random.below(5) {
-        0 => short_feed(random),
+    match random.below(10) {
+        0 | 1 => short_feed(random),
+        2 => code_feeds::any_feed(random),
         _ => feed_in_a_row(random),
     }
 }
@@ -126,7 +138,8 @@ fn feed_in_a_row(random: &mut Random) -> Feed {
     let place = sessions::place(random, total);
     let early = random.place(10);
     let other_end = random.pick(&[total.saturating_sub(early), place + early]);
-    let end = random.pick(&[total, total, total, total, other_end.min(total)]);
+    let other_end = random.pick(&[total - 1, other_end.min(total)]);
+    let end = random.pick(&[total, total, total, total, other_end]);
     let (numbers, mut bits) = in_a_row(random, &row, place, end);
     let cut = cut(random, bits.len());
     bits.extend(signals::after_row(random));
@@ -141,7 +154,7 @@ fn feed_in_a_row(random: &mut Random) -> Feed {
     alter(random, &mut numbers);
     let mut buffers = row.words;
     fill_buffers(random, &mut buffers, numbers.pairs as usize);
-    if numbers.line == 0 && random.one_in(3) {
+    if numbers.line == 0 && random.bit() {
         spoil_line_words(random, &mut buffers[Y]);
     }
     Feed {
@@ -175,7 +188,7 @@ fn cut(random: &mut Random, in_row: usize) -> usize {
 
 /// Buffers hold anything: often other words where pairs are still to be laid, sometimes words above 3FF that look like
 /// those they stand for, sometimes more words.
-fn fill_buffers(random: &mut Random, buffers: &mut [Vec<u16>; 2], place: usize) {
+pub fn fill_buffers(random: &mut Random, buffers: &mut [Vec<u16>; 2], place: usize) {
     for buffer in buffers {
         if random.bit() {
             let word = lists::any_word(random);

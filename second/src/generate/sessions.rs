@@ -38,9 +38,17 @@ pub fn begun(code: u32) -> Numbers {
 /// the row's pairs up to where it ends. A run reaches it with any history, for before the row any bits may come.
 pub fn in_a_row(random: &mut Random, row: &Row, place: usize, end: usize) -> (Numbers, Vec<bool>) {
     let bit = random.place(PAIR_BITS);
+    let numbers = in_a_row_from(random, row, place, bit);
+    let mut bits = signals::row_bits(&row.words, place..end.max(place + 1));
+    bits.drain(..bit);
+    (numbers, bits)
+}
+
+/// Such a session of which so many bits of the next pair have come.
+pub fn in_a_row_from(random: &mut Random, row: &Row, place: usize, bit: usize) -> Numbers {
     let [y, c] = &row.words;
     let before = signals::pair_bits([y[place], c[place]]).repeat(4);
-    let numbers = Numbers {
+    Numbers {
         history: random.short(0, 0x3ff),
         last: last_of_bits(&before[bit..bit + 3 * PAIR_BITS]),
         seen: true,
@@ -49,17 +57,14 @@ pub fn in_a_row(random: &mut Random, row: &Row, place: usize, end: usize) -> (Nu
         line: row.head.line,
         carry: row.head.carry,
         ..begun(row.head.code)
-    };
-    let mut bits = signals::row_bits(&row.words, place..end.max(place + 1));
-    bits.drain(..bit);
-    (numbers, bits)
+    }
 }
 
 /// Line, carry and counts are made any others in range, or left; where no line is known there is no carry.
 pub fn alter(random: &mut Random, numbers: &mut Numbers) {
     let rows = raster(numbers).rows;
     let line = random.between(1, rows);
-    if random.one_in(3) {
+    if random.bit() {
         numbers.line = random.pick(&[0, 0, 0, 0, 1, rows, rows - 1, line]);
     }
     if random.one_in(6) {

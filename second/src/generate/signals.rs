@@ -21,7 +21,7 @@ pub fn row_bits(row: &[Vec<u16>; 2], places: Range<usize>) -> Vec<bool> {
 }
 
 /// A sync and its XYZ pair.
-fn code_bits(xyz: [u16; 2]) -> Vec<bool> {
+pub fn code_bits(xyz: [u16; 2]) -> Vec<bool> {
     let mut bits: Vec<bool> = SYNC_WORDS
         .into_iter()
         .flat_map(|word| pair_bits([word; 2]))
@@ -63,6 +63,19 @@ pub fn code(random: &mut Random) -> Vec<bool> {
         bits[place] ^= true;
     }
     bits
+}
+
+/// So many ones and then so many zeros, between bits that are none of them.
+pub fn stretch(ones: usize, zeros: usize) -> Vec<bool> {
+    let before = vec![ones == 0];
+    [before, vec![true; ones], vec![false; zeros], vec![true]].concat()
+}
+
+/// Lays bits over those that are there, as far as there are any.
+pub fn overlay(bits: &mut [bool], place: usize, laid: &[bool]) {
+    for (held, &bit) in bits.iter_mut().skip(place).zip(laid) {
+        *held = bit;
+    }
 }
 
 /// An EAV, and a sync that begins with the ones its XYZ pair ends in.
@@ -135,7 +148,7 @@ pub fn calm(random: &mut Random) -> Vec<bool> {
 
 /// What follows the pairs of a row: an EAV at its place, one that is late or at another alignment, another code, or none.
 pub fn after_row(random: &mut Random) -> Vec<bool> {
-    let late = random.between(1, 5);
+    let late = random.pick(&[1, 1, 1, 2, 3, 4, 5]);
     let off = random.place(PAIR_BITS);
     let mut bits = match random.below(12) {
         0 => pairs(random, late),

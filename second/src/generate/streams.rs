@@ -1,5 +1,6 @@
 //! The unscrambled bits of a whole module: rows that follow one another, right or damaged, or none.
 
+use super::code_feeds::{ONES, ZEROS};
 use super::pieces;
 use super::rows::{damage, row_with_packets, Head, Row};
 use super::signals::{self, PAIR_BITS};
@@ -14,6 +15,7 @@ pub fn any(random: &mut Random, code: u32) -> Vec<bool> {
     match random.below(20) {
         0..=9 => rows(random, code),
         10 => vec![random.bit(); random.place(3000)],
+        11..=14 => stretches(random),
         _ => {
             let mut bits = signals::codes_and_gaps(random, 6);
             let damages = random.pick(&[0, 0, 1]);
@@ -21,6 +23,24 @@ pub fn any(random: &mut Random, code: u32) -> Vec<bool> {
             bits
         }
     }
+}
+
+/// Open rows with what is nearly a sync.
+fn stretches(random: &mut Random) -> Vec<bool> {
+    let before = random.place(50);
+    let mut bits = signals::noise(random, before);
+    for _ in 0..random.between(1, 4) {
+        bits.extend(signals::eav(random));
+        for _ in 0..random.between(2, 5) {
+            let pairs = random.between(1, 4) as usize;
+            let pair = signals::pair_bits([lists::word(random), lists::word(random)]);
+            let off = random.place(PAIR_BITS);
+            bits.extend(pair.repeat(pairs).split_off(off));
+            bits.extend(signals::stretch(random.pick(&ONES), random.pick(&ZEROS)));
+        }
+    }
+    end(random, &mut bits);
+    bits
 }
 
 /// What the rows of a module are.
@@ -70,7 +90,7 @@ fn following(random: &mut Random, code: u32, kind: Kind, count: u32) -> Vec<bool
     for _ in 0..count {
         let row = row(random, head, kind);
         bits.extend(signals::row_bits(&row.words, 0..row.words[0].len()));
-        if random.one_in(16) {
+        if random.one_in(8) {
             spoil_distance(random, &mut bits);
         }
         let layout = head.layout();
@@ -142,10 +162,10 @@ fn next_line(random: &mut Random, head: Head) -> u32 {
 
 /// The row before is some bits or pairs too short or too long, or a code stands in it.
 fn spoil_distance(random: &mut Random, bits: &mut Vec<bool>) {
-    let few = random.place(5);
+    let few = random.pick(&[0, 0, 0, 1, 2, 3, 4]);
     match random.below(4) {
         0 => bits.truncate(bits.len() - (few + 1) * PAIR_BITS),
-        1 => bits.extend(vec![random.bit(); few * PAIR_BITS]),
+        1 => bits.extend(vec![random.bit(); (few + 1) * PAIR_BITS]),
         2 => bits.truncate(bits.len() - 1 - random.place(40)),
         _ => {
             let code = signals::code(random);

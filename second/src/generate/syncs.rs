@@ -1,6 +1,7 @@
 //! Unscrambled words that hold syncs, nearly hold them, or hold none.
 
 use super::lists;
+use super::signals::overlay;
 use crate::random::Random;
 use crate::words::words_of;
 
@@ -17,7 +18,7 @@ pub fn words(random: &mut Random) -> Vec<u16> {
     for _ in 0..syncs {
         let sync = sync(random);
         let place = place(random, bits.len(), sync.len());
-        lay(&mut bits, place, &sync);
+        overlay(&mut bits, place, &sync);
     }
     let mut words = words_of(&bits);
     if random.one_in(5) {
@@ -84,11 +85,5 @@ fn place(random: &mut Random, length: usize, sync: usize) -> usize {
         1 => length.saturating_sub(sync),
         2 => length.saturating_sub(random.place(sync)),
         _ => random.place(length.saturating_sub(sync) + 1),
-    }
-}
-
-fn lay(bits: &mut [bool], place: usize, sync: &[bool]) {
-    for (held, &bit) in bits.iter_mut().skip(place).zip(sync) {
-        *held = bit;
     }
 }

@@ -1,6 +1,6 @@
 //! The functions of a bench file.
 
-use super::{refusable, unknown, Answer};
+use super::{list, refusable, unknown, Answer};
 use crate::arguments::Arguments;
 use crate::bench::sections::{is_tag_byte, LONGEST_TAG};
 use crate::desk::{Desk, Done, Outcome, Piece, Reader, Stage, STAGES};
@@ -16,6 +16,7 @@ pub fn call(function: u32, arguments: &mut Arguments) -> Answer {
         DESK => desk(arguments),
         TAKE => take(arguments),
         OUTCOME_LINE => outcome_line(arguments),
+        READ_WORDS => read_words(arguments),
         _ => unknown(function),
     }
 }
@@ -34,6 +35,14 @@ fn read_bytes(arguments: &mut Arguments) -> Answer {
         [kind, what, ends_job, reader.is_cut_short().into()]
     });
     Ok(numbers.collect())
+}
+
+/// "how many words were read, READER after it, LIST output"
+fn read_words(arguments: &mut Arguments) -> Answer {
+    let mut reader = reader(arguments)?;
+    let (bytes, mut output) = (arguments.bytes()?, arguments.list()?);
+    let count = reader.read_words(&bytes, &mut output);
+    Ok([vec![count as u32], reader.numbers(), list(&output)].concat())
 }
 
 /// "0 nothing is complete, 1 the options are, 2 a word is, 3 the byte is refused; the raster byte, the word or the refusal (0
@@ -98,7 +107,7 @@ fn is_of_session(reader: &Reader, numbers: &Numbers) -> bool {
 
 /// "its stage [..]; how many bytes of the tag are left [..]; the low byte [..]; the raster byte [..]; wipe (flag); a LIST of
 /// the tag's bytes so far"
-fn reader(arguments: &mut Arguments) -> Result<Reader, String> {
+pub fn reader(arguments: &mut Arguments) -> Result<Reader, String> {
     let stage = STAGES.get(arguments.number()? as usize).copied();
     let reader = Reader {
         stage: stage.ok_or("no such stage")?,

@@ -26,7 +26,9 @@ pub fn all() -> Vec<Vector> {
         refused_bytes(),
         at_a_desk(),
         refused_at_a_desk(),
+        about_runs(),
         taken(),
+        read_at_once(),
         lines(),
     ];
     groups.into_iter().flatten().collect()
@@ -170,6 +172,59 @@ fn refused_at_a_desk() -> Vec<Vector> {
     ]
 }
 
+/// So many words may be taken at once.
+const RUN: usize = 4096;
+
+/// Zeros, about as many as may be taken at once: no sync, a word above 3FF, the end of the file.
+fn about_runs() -> Vec<Vector> {
+    let file = |count: usize| {
+        let mut file = A17[..13].to_vec();
+        file.extend((count as u32).to_le_bytes().map(u32::from));
+        file.resize(A17.len() + 2 * count, 0);
+        file
+    };
+    let a17 = done(&A17, 1);
+    let mut vectors = Vec::new();
+    for count in RUN - 1..=RUN + 2 {
+        let (file, first) = (file(count), (A17.len() + 2 * RUN - 1) as u32);
+        let taken = [0, file.len() as u32];
+        vectors.push(desk(&[], &file, ENOUGH, &[&taken, &a17, &NOTHING]));
+        // Lent by all but the high byte of a run's last word, and the rest.
+        if taken[1] > first {
+            let takes: [&[u32]; 5] = [
+                &[0, first],
+                &NOTHING,
+                &[0, taken[1] - first],
+                &a17,
+                &NOTHING,
+            ];
+            vectors.push(desk(&[first], &file, ENOUGH, &takes));
+        }
+    }
+    for place in [0, RUN - 2, RUN - 1, RUN, RUN + 1] {
+        let mut file = file(RUN + 2);
+        let end = A17.len() + 2 * place + 2;
+        file[end - 1] = 4;
+        let bad_3 = [2, 3, 0, 0, 0, 0, 0, 0];
+        vectors.push(desk(
+            &[],
+            &file,
+            ENOUGH,
+            &[&[0, end as u32], &bad_3, &NOTHING],
+        ));
+    }
+    for end in A17.len() + 2 * RUN - 1..=A17.len() + 2 * RUN + 1 {
+        let file = &file(RUN + 1)[..end];
+        vectors.push(desk(
+            &[],
+            file,
+            ENOUGH,
+            &[&[0, end as u32], &NOTHING, &BAD_9],
+        ));
+    }
+    vectors
+}
+
 /// A READER of the tag `A` and raster 1: stage and how many are left.
 fn reader(stage: u32, left: u32) -> Vec<u32> {
     let raster = u32::from(stage > 4);
@@ -268,6 +323,60 @@ fn ends() -> Vec<Vector> {
         end(&reader(7, 1), &[0x03, 3], 1, &done),
         end(&reader(6, 2), &[0x00, 0x04, 3], 2, &bad_3),
     ]
+}
+
+/// "min(words left - 1 [..], bytes / 2, places of the output)" words: each of these is the least, at other stages it is none.
+fn read_at_once() -> Vec<Vector> {
+    let bytes = [0xff, 0x03, 0x00, 0x04, 0x01, 0x00, 0x02];
+    let words = [0x3ff, 0x400, 0x001];
+    let read = |before: &[u32], lent: usize, places: usize, after: &[u32], count: usize| {
+        let held = vec![0xfade; places];
+        let (lent, length) = (&bytes[..lent], lent as u32);
+        let output = [&words[..count], &held[count..]].concat();
+        let request = [
+            &[READ_WORDS],
+            before,
+            &[length],
+            lent,
+            &[places as u32],
+            &held,
+        ]
+        .concat();
+        let answer = [&[count as u32], after, &[places as u32], &output].concat();
+        vector(&request, &answer)
+    };
+    let of_words = |left, lent, places, count| {
+        let after = reader(6, left - count as u32);
+        read(&reader(6, left), lent, places, &after, count)
+    };
+    let mut vectors = vec![
+        of_words(1, 7, 4, 0),
+        of_words(2, 7, 4, 1),
+        of_words(3, 7, 4, 2),
+        of_words(4, 7, 4, 3),
+        of_words(4, 6, 3, 3),
+        of_words(5, 7, 4, 3),
+        of_words(0xffff_ffff, 7, 4, 3),
+        of_words(9, 0, 4, 0),
+        of_words(9, 1, 4, 0),
+        of_words(9, 2, 4, 1),
+        of_words(9, 3, 4, 1),
+        of_words(9, 5, 4, 2),
+        of_words(9, 7, 0, 0),
+        of_words(9, 7, 1, 1),
+        of_words(9, 7, 2, 2),
+    ];
+    let high = [7, 9, 0xff, 1, 1, 1, 0x41];
+    for reader in [
+        &[0; 6][..],
+        &reader(1, 2),
+        &reader(5, 0),
+        &high,
+        &[8, 0, 0, 0, 0, 0],
+    ] {
+        vectors.push(read(reader, 7, 4, reader, 0));
+    }
+    vectors
 }
 
 /// The lines of the paper's file and of refused ones; one for a verdict that has no words; none for nothing.

@@ -1,6 +1,7 @@
 //! A job on its way to be refused: its sections, the counts before them, and where it is cut.
 
 use crate::generate::lists;
+use crate::generate::long_sections::RUN;
 use crate::job::Job;
 use crate::random::Random;
 use std::ops::Range;
@@ -122,6 +123,19 @@ impl BadJob {
     /// "a word [..] above 3FF"; answers where its bytes start.
     pub fn spoil_word(&mut self, random: &mut Random) -> usize {
         let place = some_place(random, self.job.words.len());
+        self.spoil_word_at(random, place)
+    }
+
+    /// So many words as may be taken at once, and a few more; the place of one about that end, or of the last.
+    pub fn place_about_a_run(&mut self, random: &mut Random) -> usize {
+        let count = RUN + random.place(4);
+        self.job.words.resize(count, 0x155);
+        self.counts = self.job.counts();
+        let near = RUN - 3 + random.place(5);
+        random.pick(&[near.min(count - 1), count - 2, count - 1])
+    }
+
+    pub fn spoil_word_at(&mut self, random: &mut Random, place: usize) -> usize {
         let word = &mut self.job.words[place];
         let above = [
             lists::above(random),

@@ -7,6 +7,11 @@ use crate::random::Random;
 
 /// All of them, with their names.
 pub fn all() -> Vec<Fault<BadJob>> {
+    [of_few_words(), ABOUT_RUNS.to_vec()].concat()
+}
+
+/// Those that do not make a job longer.
+pub fn of_few_words() -> Vec<Fault<BadJob>> {
     let faults = [
         &SINGLE[..],
         &CUTS,
@@ -18,10 +23,15 @@ pub fn all() -> Vec<Fault<BadJob>> {
     faults.concat()
 }
 
-/// The job once it is spoilt.
-pub fn bad_job(random: &mut Random, job: Job, notes: &mut Notes) -> BadJob {
+/// The job once it is spoilt in one of these ways.
+pub fn bad_job(
+    random: &mut Random,
+    job: Job,
+    faults: &[Fault<BadJob>],
+    notes: &mut Notes,
+) -> BadJob {
     let mut bad = BadJob::of(job);
-    let spoil = notes.in_turn(&all());
+    let spoil = notes.in_turn(faults);
     spoil(random, &mut bad);
     bad
 }
@@ -181,5 +191,18 @@ const IN_TWO_SECTIONS: [Fault<BadJob>; 4] = [
     ("bad raster, then a cut in the words", |random, bad| {
         bad.spoil_raster(random);
         cut(random, bad, WORDS);
+    }),
+];
+
+/// In sections of about as many words as may be taken at once.
+const ABOUT_RUNS: [Fault<BadJob>; 2] = [
+    ("bad word about a run's end", |random, bad| {
+        let place = bad.place_about_a_run(random);
+        bad.spoil_word_at(random, place);
+    }),
+    ("cut about a run's end, and a bad word", |random, bad| {
+        let place = bad.place_about_a_run(random);
+        let start = bad.spoil_word_at(random, place);
+        bad.cut_in(random, start - 3..start + 4);
     }),
 ];

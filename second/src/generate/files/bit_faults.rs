@@ -1,16 +1,17 @@
 //! Faults among a signal's unscrambled bits: bits lost and doubled, and syncs where none should be.
 
-use super::signal::{double, lose, overlay, Signal};
+use super::signal::{double, lose, Signal};
 use super::Fault;
 use crate::cable::SYNC_BITS;
-use crate::generate::signals::{self, PAIR_BITS};
+use crate::generate::code_feeds::{ONES, ZEROS};
+use crate::generate::signals::{self, overlay, PAIR_BITS};
 use crate::layout::EAV;
 use crate::random::Random;
 use crate::words::WORD_BITS;
 
 const EAV_BITS: usize = EAV.end * PAIR_BITS;
 
-pub const FAULTS: [Fault<Signal>; 17] = [
+pub const FAULTS: [Fault<Signal>; 18] = [
     ("lost bit", |random, signal| {
         let place = signal.place(random);
         lose(&mut signal.bits, place, 1);
@@ -36,6 +37,10 @@ pub const FAULTS: [Fault<Signal>; 17] = [
     }),
     ("sync about the T-th pair's end", |random, signal| {
         code_about_the_end(random, signal);
+    }),
+    ("nearly a sync", |random, signal| {
+        let stretch = signals::stretch(random.pick(&ONES), random.pick(&ZEROS));
+        overlay_some(random, signal, &stretch);
     }),
     ("sync that begins in an XYZ pair", code_in_xyz),
     ("sync that begins with an XYZ pair", code_with_xyz),

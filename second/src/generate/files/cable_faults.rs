@@ -1,8 +1,8 @@
 //! Faults on the cable: bits and words that are changed, lost or doubled, and stretches that are dead.
 
-use super::signal::{double, lose, overlay};
+use super::signal::{double, lose};
 use super::Fault;
-use crate::generate::signals::noise;
+use crate::generate::signals::{noise, overlay};
 use crate::random::Random;
 use crate::words::WORD_BITS;
 

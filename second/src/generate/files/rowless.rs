@@ -3,12 +3,13 @@
 use super::modules::Module;
 use super::Kind;
 use crate::generate::camera::Recording;
+use crate::generate::long_sections::{across, marked, CODE, RUN};
 use crate::generate::{lists, signals};
 use crate::random::Random;
 
 type Maker = (Kind, fn(&mut Random) -> Vec<u16>);
 
-pub const MAKERS: [Maker; 9] = [
+pub const MAKERS: [Maker; 10] = [
     ("no words", |_| Vec::new()),
     ("few words", |random| noise(random, 40)),
     ("noise", |random| noise(random, 5000)),
@@ -19,6 +20,7 @@ pub const MAKERS: [Maker; 9] = [
     }),
     ("codes", |random| codes(random, 6)),
     ("many codes", |random| codes(random, 60)),
+    ("codes about a run's end", about_a_run),
     ("damaged codes", |random| {
         let mut bits = signals::codes_and_gaps(random, 6);
         signals::damage(random, &mut bits, 2);
@@ -41,6 +43,18 @@ fn noise(random: &mut Random, most: usize) -> Vec<u16> {
 /// Codes and gaps between them.
 fn codes(random: &mut Random, most: u32) -> Vec<u16> {
     recorded(&signals::codes_and_gaps(random, most))
+}
+
+/// A section of about as many words as may be taken at once, with codes across that end and its own.
+fn about_a_run(random: &mut Random) -> Vec<u16> {
+    let count = RUN - 2 + random.place(6);
+    let codes = [
+        random.place(20),
+        across(RUN, random.place(CODE)),
+        across(count, random.place(CODE)),
+    ];
+    let more = random.between(1, 2) as usize;
+    marked(count, &codes[..=more])
 }
 
 fn recorded(bits: &[bool]) -> Vec<u16> {

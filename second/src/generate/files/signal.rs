@@ -60,13 +60,6 @@ impl Signal {
     }
 }
 
-/// Lays bits over those that are there.
-pub fn overlay(bits: &mut [bool], place: usize, laid: &[bool]) {
-    for (held, &bit) in bits.iter_mut().skip(place).zip(laid) {
-        *held = bit;
-    }
-}
-
 /// Loses so many bits from a place on, or as many as there are.
 pub fn lose(bits: &mut Vec<bool>, place: usize, count: usize) {
     let end = bits.len().min(place + count);

@@ -66,7 +66,7 @@ const MAKERS: [(u32, Maker); 67] = [
     (2, Generator::part),
     (1, Generator::same),
     (2, Generator::lay),
-    (1, Generator::any_reserved),
+    (3, Generator::any_reserved),
     (2, Generator::lay_times),
     (1, Generator::raster_row),
     (3, Generator::name_raster),
@@ -227,7 +227,9 @@ impl Generator {
         let count = lists::length(random);
         let mut words: Vec<u16> = (0..count).map(|_| random.short(0x004, 0x3fb)).collect();
         for _ in 0..random.below(3) {
-            let word = lists::near_reserved(random);
+            let code = random.pick(&[0, 1, 2, 3, 0x3fc, 0x3fd, 0x3fe, 0x3ff]);
+            let near = lists::near_reserved(random);
+            let word = random.pick(&[code, near]);
             regions::change_a_word(random, &mut words, |_| word);
         }
         request(&[&[ANY_RESERVED], &list(&words)])

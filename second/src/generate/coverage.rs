@@ -134,6 +134,52 @@ fn every_flag_comes_alone_and_rows_without_a_flag_come() {
     }
 }
 
+/// Words may be passed by sixteen.
+const SIXTEEN: usize = 16;
+
+/// How often each place of sixteen comes.
+fn places_of_sixteen(places: impl Iterator<Item = usize>) -> [u32; SIXTEEN] {
+    let mut come = [0; SIXTEEN];
+    places.for_each(|place| come[place % SIXTEEN] += 1);
+    come
+}
+
+/// From the region's start, or from the end of what was found before.
+#[test]
+fn a_000_comes_at_every_place_after_a_stretch_without_one() {
+    let requests = requests(&[SCAN]);
+    let regions = requests.iter().map(|request| {
+        let arguments = Arguments::parse(&format_line(&request[1..]));
+        arguments.and_then(|mut arguments| arguments.runs())
+    });
+    let regions: Vec<Vec<u16>> = regions.map(|region| region.expect("runs")).collect();
+    let stretches = regions.iter().flat_map(|region| {
+        let ends = region.split_inclusive(|&word| word == 0);
+        let ended = ends.filter(|words| words.ends_with(&[0]));
+        ended.map(|words| words.len() - 1)
+    });
+    let long = stretches.filter(|&length| length >= SIXTEEN);
+    let come = places_of_sixteen(long);
+    assert!(come.iter().all(|&times| times >= 3), "{come:?}");
+}
+
+#[test]
+fn every_reserved_code_comes_and_at_every_place() {
+    let requests = requests(&[ANY_RESERVED]);
+    let codes = (0..4).chain(0x3fc..0x400);
+    for code in codes.clone() {
+        let with = requests.iter().filter(|words| words[2..].contains(&code));
+        assert!(with.count() >= 3, "{code:x}");
+    }
+    let codes: Vec<u32> = codes.collect();
+    let places = requests.iter().flat_map(|words| {
+        let words = words[2..].iter().enumerate();
+        words.filter(|(_, word)| codes.contains(word))
+    });
+    let come = places_of_sixteen(places.map(|(place, _)| place));
+    assert!(come.iter().all(|&times| times >= 1), "{come:?}");
+}
+
 /// Raster, line and both channels of a request to correct with wiping, if it is not refused.
 fn wiped_row(request: &[u32]) -> Option<(Layout, [Vec<u16>; 2])> {
     let [_, code, line, _, _, _, wipe, ..] = *request else {

@@ -1,15 +1,22 @@
-//! Fixed bench files: sections about as long as the parts in which they may be taken, and every alignment of rows and codes.
+//! Fixed bench files: sections about as long as the parts in which they may be taken, every alignment of rows and codes, and a
+//! frame that is one row short.
 
 use super::alignments;
+use super::camera::Recording;
+use super::files::sender::Sender;
 use super::long_sections::{across, marked, CODE, READ, RUN};
+use super::signals::row_bits;
+use super::streams::rows_of;
 use crate::cable::SYNC_BITS;
 use crate::job::Job;
+use crate::random::Random;
 use crate::words::WORD_BITS;
 
 /// The longest row, so that no row ends between two EAVs, and each but the first of them is a fault.
 const RASTER: u8 = 5;
+/// The bytes before the words but for the tag: three counts and the options.
 const HEAD: usize = 14;
-/// A word above 3FF, by its low byte no other.
+/// Makes a word one above 3FF.
 const ABOVE: u16 = 0x400;
 
 /// A file of a long section and a short job after it.
@@ -208,8 +215,20 @@ fn cut_about_reads() -> Vec<Plan> {
     cut.collect()
 }
 
+/// Good rows of raster 1, of which one less counts than a frame has.
+fn short_frame() -> Vec<u8> {
+    let random = &mut Random::new(1);
+    let mut sender = Sender::new(random, 1);
+    let mut recording = Recording::default();
+    for _ in 0..rows_of(1) + 1 {
+        let row = sender.row(random);
+        recording.send(&row_bits(&row.words, 0..row.words[0].len()));
+    }
+    Job::new("SHORT", 1, false, recording.words()).bytes()
+}
+
 pub fn count() -> usize {
-    plans().len() + alignments::COUNT
+    plans().len() + alignments::COUNT + 1
 }
 
 /// The file of this number, if there is one.
@@ -217,6 +236,7 @@ pub fn file(number: usize) -> Option<Vec<u8>> {
     let plans = plans();
     match plans.get(number) {
         Some(plan) => Some(plan.bytes(number)),
+        None if number + 1 == count() => Some(short_frame()),
         None => alignments::file(number - plans.len()),
     }
 }
@@ -269,6 +289,12 @@ mod tests {
             let file = alignments::file(number).expect("there is one");
             assert!(file.len() < READ);
         }
-        assert!(file(count() - 1).is_some() && file(count()).is_none());
+        assert!(file(count()).is_none());
+    }
+
+    #[test]
+    fn the_last_is_one_row_short_of_a_frame() {
+        let file = file(count() - 1).expect("there is one");
+        assert_eq!(printed(&file), "SHORT raster 1 rows 749 faults 0 SHORT\n");
     }
 }

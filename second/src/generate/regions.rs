@@ -2,6 +2,7 @@
 
 use super::lists;
 use super::pieces::{bait, other_pair, packet, piece, Pair};
+use crate::packet::MARKER;
 use crate::random::Random;
 use crate::words::lay;
 use std::ops::Range;
@@ -61,10 +62,12 @@ fn before(place: usize, distance: u32) -> usize {
     place.saturating_sub(distance as usize)
 }
 
-/// A region alone: blanking or any other words with pieces laid in it, or many markers one upon the other.
+/// A region alone: blanking or any other words with pieces laid in it, some far apart, or many markers one upon the other.
 pub fn region(random: &mut Random, wanted: Pair) -> Vec<u16> {
-    if random.one_in(4) {
-        return crowded(random);
+    match random.below(8) {
+        0 | 1 => return crowded(random),
+        2 | 3 => return spaced(random, wanted),
+        _ => {}
     }
     let length = match random.below(6) {
         0 => random.below(8),
@@ -89,6 +92,28 @@ fn crowded(random: &mut Random) -> Vec<u16> {
             _ => random.short(0, 0x3ff) & 0x30f,
         })
         .collect()
+}
+
+/// Packets, markers and single 000s, each after some tens of words that are none.
+fn spaced(random: &mut Random, wanted: Pair) -> Vec<u16> {
+    let mut words = Vec::new();
+    for _ in 0..random.between(1, 4) {
+        stretch(random, &mut words);
+        match random.below(4) {
+            0 => words.push(MARKER[0]),
+            1 => words.extend(MARKER),
+            _ => words.extend(packet(random, wanted)),
+        }
+    }
+    stretch(random, &mut words);
+    words
+}
+
+/// Up to some tens of words, all the same, also one whose low ten bits are those of 000.
+fn stretch(random: &mut Random, words: &mut Vec<u16>) {
+    let length = words.len() + random.place(52);
+    let any = random.short(0x001, 0x3ff);
+    words.resize(length, random.pick(&[0x040, 0x200, 0x400, any]));
 }
 
 /// Changes one word, mostly one that begins a run, for such words are seldom blanking.

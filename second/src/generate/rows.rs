@@ -142,7 +142,9 @@ pub fn damage(random: &mut Random, layout: &Layout, row: &mut Row) {
     }
 }
 
-const RESERVED_OR_NEAR: [u16; 8] = [0x000, 0x001, 0x003, 0x004, 0x3fb, 0x3fc, 0x3fe, 0x3ff];
+const RESERVED_OR_NEAR: [u16; 10] = [
+    0x000, 0x001, 0x002, 0x003, 0x004, 0x3fb, 0x3fc, 0x3fd, 0x3fe, 0x3ff,
+];
 
 /// One of a few words changed, in a bit or wholly.
 fn damage_part(random: &mut Random, part: &mut [u16]) {

@@ -151,9 +151,9 @@ pub fn after_row(random: &mut Random) -> Vec<bool> {
     let late = random.pick(&[1, 1, 1, 2, 3, 4, 5]);
     let off = random.place(PAIR_BITS);
     let mut bits = match random.below(12) {
-        0 => pairs(random, late),
-        1 => noise(random, off),
-        2 => noise(random, WORD_BITS),
+        0 | 1 => pairs(random, late),
+        2 => noise(random, off),
+        3 => noise(random, WORD_BITS),
         _ => Vec::new(),
     };
     bits.extend(match random.below(12) {

@@ -7,7 +7,7 @@ use native.Mathlib.Omega.{arith}
 use lib.ListN.{length, take, drop, replicate, length-drop}
 use lib.Bits.{bitXor}
 use Rattle.bits.specs.Bits.{digit, odd, bits, number, xors}
-use Rattle.bits.proofs.Bits.{bits-number, number-lt, odd-digit, half-digit, number-bits, length-bits, number-shr, number-mod, number-append, number-shl, number-join, number-xors, ⊕-false, ⊕-assoc}
+use Rattle.bits.proofs.Bits.{bits-number, number-lt, odd-digit, half-digit, number-bits, length-bits, number-shr, number-mod, number-shl, number-join, number-xors, ⊕-false, ⊕-assoc}
 use Rattle.cable.specs.Bits.{ago, scrambler, descrambler, nrzi, unnrzi, levels, scrambled, unscrambled, past}
 use Rattle.cable.specs.Words.{unscrambleWord, scrambleWord}
 

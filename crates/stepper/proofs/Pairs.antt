@@ -1,29 +1,23 @@
 -- A pair that ends in twenty bits: its words, from the last sixty bits before them.
-use mathlib.Core.Path.{_≡_, refl, sym, ap, ap₂, _∙_}
-use mathlib.Core.Bool.{Bool, true, false}
+use mathlib.Core.Path.{_≡_, sym, ap, ap₂, _∙_}
+use mathlib.Core.Bool.{Bool, false}
 use mathlib.Core.List.{List, [], _∷_, _++_}
 use Prim.Native.Nat.{ℕ, suc, _+_, _-_, _*_, _/_, _%_, _^_, _≤_, _<_}
 use native.Mathlib.Omega.{arith}
-use native.Mathlib.Nat.{mul-comm, mul-assoc, add-mul, mul-left-comm, add-mul-div-left}
-use native.Mathlib.Numerals.{add-one}
-use lib.ListN.{length, take, drop, getD, set, take-append-drop, length-take, length-drop, length-append}
+use native.Mathlib.Nat.{mul-assoc, add-mul, mul-left-comm, add-mul-div-left}
+use lib.ListN.{length, take, drop, getD, set, take-append-drop, length-take, length-drop}
 use lib.Seq.{take-suc, drop-cons}
 use lib.Pow.{pow-pos, pow-add, shr-shr, split}
 use borrow.Author.Tests.{lt-ltb}
-use Rattle.bits.specs.Bits.{bits, number, wordBits}
-use Rattle.bits.proofs.Bits.{number-mod, number-bits, number-append, length-bits}
-use Rattle.bits.proofs.Words.{words10-head}
-use Rattle.cable.specs.Words.{unscrambleWord, unscrambleWords}
-use Rattle.cable.proofs.Words.{unscramble-step, unscramble-range}
+use Rattle.bits.specs.Bits.{bits, number}
+use Rattle.bits.proofs.Bits.{number-mod}
 use Rattle.align.specs.Search.{slid}
-use Rattle.recogniser.specs.declared.Place.{Place}
 use Rattle.recogniser.specs.Sight.{cWord, yWord}
 use Rattle.recogniser.specs.Event.{nowhere, place}
 use Rattle.laying.specs.Laying.{laidBy}
 use Rattle.stepper.specs.declared.State.{State}
-use Rattle.stepper.specs.Step.{Run, run, steps}
+use Rattle.stepper.specs.Step.{run, steps}
 use Rattle.stepper.specs.Hurry.{Calm, slides, standing}
-use Rattle.stepper.proofs.Stepping.{steps-of-append}
 use Rattle.stepper.proofs.Sliding.{slides-of-append, slides-value}
 use Rattle.stepper.proofs.Quiet.{passed, twenty}
 

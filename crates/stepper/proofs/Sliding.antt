@@ -5,12 +5,11 @@ use mathlib.Core.List.{List, [], _∷_, _++_}
 use Prim.Native.Nat.{ℕ, suc, _+_, _*_, _/_, _^_, _≤_, _<_}
 use native.Mathlib.Omega.{arith}
 use native.Mathlib.Nat.{pow-suc, pow-succ', div-div-eq-div-mul, add-mul-div-left}
-use lib.ListN.{length, length-append}
+use lib.ListN.{length}
 use lib.Pow.{pow-pos, pow-mono, pow-add}
-use Rattle.bits.specs.Bits.{digit, odd, bits, number}
+use Rattle.bits.specs.Bits.{digit, bits, number}
 use Rattle.bits.proofs.Bits.{digit-lt}
 use Rattle.align.specs.Search.{slid}
-use Rattle.recogniser.specs.Sight.{isSync}
 use Rattle.recogniser.proofs.Events.{isSync-other}
 use Rattle.stepper.specs.Hurry.{Calm, NoSync, slides}
 

@@ -1,5 +1,5 @@
 -- Ten bits of two words that stand one after the other, from a bit of the first on.
-use mathlib.Core.Path.{_≡_, refl, sym, ap, _∙_}
+use mathlib.Core.Path.{_≡_, sym, ap, _∙_}
 use Prim.Native.Nat.{ℕ, _+_, _-_, _*_, _/_, _%_, _^_, _≤_, _<_}
 use native.Mathlib.Omega.{arith}
 use native.Mathlib.Nat.{add-comm, mul-comm, mul-assoc, mul-add, add-mul-div-left, mul-le-mul-left, div-lt-iff-lt-mul, mod-lt}

@@ -4,11 +4,10 @@ use mathlib.Core.Bool.{Bool, true, false}
 use mathlib.Core.List.{List, [], _∷_, _++_}
 use Prim.Native.Nat.{ℕ, zero, suc, _+_, _-_, _*_, _/_, _%_, _^_, _≤_, _<_}
 use native.Mathlib.Omega.{arith}
-use native.Mathlib.Numerals.{add-one}
 use lib.Dec.{ltb}
-use lib.ListN.{length, getD, set, take, drop, length-take, length-drop, length-append}
+use lib.ListN.{length, getD, set, take, drop, length-drop, length-append}
 use lib.Pow.{shr-shr}
-use lib.Seq.{take-suc, drop-cons, drop-drop, getD-drop}
+use lib.Seq.{take-suc, drop-cons, getD-drop}
 use borrow.Author.Tests.{ltb-true, ltb-false}
 use Rattle.bits.specs.Bits.{bits, number, wordBits}
 use Rattle.bits.specs.Words.{words10}

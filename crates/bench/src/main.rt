@@ -4,12 +4,26 @@ use jobs::Kind;
 use jobs::Outcome;
 use libc::STDIN_FILENO;
 use libc::STDOUT_FILENO;
+use line::Line;
 ghost use Prim.Native.Nat.{_≤_};
 ghost use lib.ListN.{length};
 
-// How many bytes were served; more: the file is not refused and the output is not closed.
+// Lines wait in an output of so many bytes, and are written out together.
+const OUTPUT: usize = 4096;
+
+// The room of a line.
+const LINE: usize = 96;
+
+// How many bytes of the output are laid; open: those that were written out were taken.
+struct Laid {
+    bytes: usize,
+    open: bool,
+}
+
+// How many bytes were served, and laid; more: the file is not refused and the output is not closed.
 struct Served {
     bytes: usize,
+    laid: usize,
     more: bool,
     desk: Desk,
 }
@@ -23,68 +37,99 @@ fn is_refused(kind: Kind) -> bool {
 }
 
 // Writes the first bytes; answers whether they were written.
-fn write_first(bytes: &[u8], count: usize) -> bool {
-    if bytes.len() < count {
-        return false;
-    }
+fn write_first(bytes: &[u8], count: usize) -> bool
+    requires { ⌜ count ≤ length (now bytes) ⌝ }
+{
     io::write_all(STDOUT_FILENO, &bytes[..count])
 }
 
-// Prints the line of an outcome.
-fn print(outcome: Outcome) -> bool {
-    let line = line::line_of(outcome);
+// Copies a line to a place that has its room: at most 4,000 of the 4,096 bytes stand before it.
+fn put(line: Line, out: &mut [u8; OUTPUT], at: usize)
+    requires { ⌜ (line .size ≤ 96) × (at ≤ 4000) ⌝ }
+{
     let bytes = line.bytes;
-    write_first(&bytes, line.size)
+    let size = line.size;
+    let mut i = 0;
+    while i < size {
+        out[at + i] = bytes[i];
+        i += 1;
+    }
+}
+
+// Lays the line of an outcome after those before it, and writes all out where less than the room of a line is left.
+fn lay(outcome: Outcome, out: &mut [u8; OUTPUT], laid: usize) -> Laid
+    requires { ⌜ laid ≤ 4000 ⌝ }
+    ensures { λ r. ⌜ r .bytes ≤ 4000 ⌝ }
+{
+    let line = line::line_of(outcome);
+    let end = laid + line.size;
+    put(line, out, laid);
+    if end <= OUTPUT - LINE {
+        return Laid {
+            bytes: end,
+            open: true,
+        };
+    }
+    Laid {
+        bytes: 0,
+        open: write_first(out, end),
+    }
 }
 
 // Serves bytes up to the end of a job.
-fn serve_job(desk: Desk, bytes: &[u8], y: &mut [u16], c: &mut [u16]) -> Served
-    ensures { λ r. ⌜ r .bytes ≤ length (now (bytes .entry)) ⌝ }
+fn serve_job(
+    desk: Desk,
+    bytes: &[u8],
+    y: &mut [u16],
+    c: &mut [u16],
+    out: &mut [u8; OUTPUT],
+    laid: usize,
+) -> Served
+    requires { ⌜ laid ≤ 4000 ⌝ }
+    ensures { λ r. ⌜ (r .bytes ≤ length (now (bytes .entry))) × (r .laid ≤ 4000) ⌝ }
 {
     let taken = desk.take(bytes, y, c);
     let desk = taken.desk;
     let outcome = taken.outcome;
     let kind = outcome.kind;
-    let written = print(outcome);
+    let lines = lay(outcome, out, laid);
     Served {
         bytes: taken.taken,
-        more: written & !is_refused(kind),
+        laid: lines.bytes,
+        more: lines.open & !is_refused(kind),
         desk,
     }
 }
 
-fn stop(desk: Desk) -> Served {
-    Served {
-        bytes: 0,
-        more: false,
-        desk,
-    }
-}
-
-// Serves the bytes that one read brought, job after job.
-fn serve(desk: Desk, bytes: &[u8], y: &mut [u16], c: &mut [u16]) -> Served {
+// Serves the bytes that one read brought, job after job, and writes out their lines: none waits while the program waits for input. Left early, it has
+// not served all bytes.
+fn serve(desk: Desk, bytes: &[u8], y: &mut [u16], c: &mut [u16], out: &mut [u8; OUTPUT]) -> Served {
     let mut desk = desk;
     let mut at = 0;
+    let mut laid = 0;
     while at < bytes.len() {
-        let served = serve_job(desk, &bytes[at..], y, c);
+        let served = serve_job(desk, &bytes[at..], y, c, out, laid);
         desk = served.desk;
+        laid = served.laid;
         if !served.more {
-            return stop(desk);
+            break;
         }
         if served.bytes == 0 {
-            return stop(desk);
+            break;
         }
         at += served.bytes;
     }
+    let written = write_first(out, laid);
     Served {
         bytes: at,
-        more: true,
+        laid: 0,
+        more: written & (at == bytes.len()),
         desk,
     }
 }
 
 // Reads to the end of the input; a read that fails is the end. A proved loop has to end, so it counts its turns down from a number that no run uses up.
-fn run(input: &mut [u8], y: &mut [u16], c: &mut [u16]) -> Desk {
+fn run(input: &mut [u8], y: &mut [u16], c: &mut [u16], out: &mut [u8; OUTPUT]) -> Desk {
     let mut desk = Desk::fresh();
     let mut turns = u64::MAX;
     while turns > 0 {
@@ -93,7 +138,7 @@ fn run(input: &mut [u8], y: &mut [u16], c: &mut [u16]) -> Desk {
         if n == 0 {
             return desk;
         }
-        let served = serve(desk, &input[..n], y, c);
+        let served = serve(desk, &input[..n], y, c, out);
         desk = served.desk;
         if !served.more {
             return desk;
@@ -103,10 +148,17 @@ fn run(input: &mut [u8], y: &mut [u16], c: &mut [u16]) -> Desk {
     desk
 }
 
+// Prints the line of the last outcome.
+fn print_last(desk: Desk, out: &mut [u8; OUTPUT]) {
+    let laid = lay(desk.finish(), out, 0);
+    write_first(out, laid.bytes);
+}
+
 fn main() {
     let mut input = [0u8; 65536];
     let mut y = [0u16; Desk::LONGEST];
     let mut c = [0u16; Desk::LONGEST];
-    let desk = run(&mut input, &mut y, &mut c);
-    print(desk.finish());
+    let mut out = [0u8; OUTPUT];
+    let desk = run(&mut input, &mut y, &mut c, &mut out);
+    print_last(desk, &mut out);
 }

@@ -4,52 +4,60 @@ use mathlib.Core.Bool.{Bool, false}
 use mathlib.Core.List.{List, _++_}
 use Prim.Native.Nat.{ℕ, _+_, _*_, _/_, _%_, _^_, _<_}
 use native.Mathlib.Omega.{arith}
-use lib.ListN.{length, take, drop, replicate, length-drop}
+use native.Mathlib.Nat.{mod-eq-of-lt}
+use lib.ListN.{length, take, drop, replicate}
 use lib.Bits.{bitXor}
 use Rattle.bits.specs.Bits.{digit, odd, bits, number, xors}
-use Rattle.bits.proofs.Bits.{bits-number, number-lt, odd-digit, half-digit, number-bits, length-bits, number-shr, number-mod, number-shl, number-join, number-xors, ⊕-false, ⊕-assoc}
+use Rattle.bits.proofs.Bits.{bits-number, number-lt, odd-digit, half-digit, number-bits, number-shr, number-mod, number-shl, number-join, number-xors, ⊕-false, ⊕-assoc}
 use Rattle.cable.specs.Bits.{ago, scrambler, descrambler, nrzi, unnrzi, levels, scrambled, unscrambled, past}
 use Rattle.cable.specs.Words.{unscrambleWord, scrambleWord}
 
--- ---- unscrambling
-
--- ten bits of a history and the word after it, from a bit of the history on
-later : (k j h w : ℕ) → k + j ≡ 10 → h % 1024 / 2 ^ k + w % 1024 % 2 ^ k * 2 ^ j ≡ number (drop k (bits 10 h) ++ take k (bits 10 w))
-later k j h w e =
-    ap₂ (λ (x y : ℕ). x / 2 ^ k + y % 2 ^ k * 2 ^ j) (sym (number-bits 10 h)) (sym (number-bits 10 w))
-    ∙ ap₂ (λ (x y : ℕ). x + y * 2 ^ j) (number-shr k (bits 10 h)) (number-mod k (bits 10 w))
-    ∙ number-join j (drop k (bits 10 h)) (take k (bits 10 w)) (omega (arith, length-drop k (bits 10 h), length-bits 10 h))
-
--- the code's expression, on lists
-abbrev listLater : ℕ → ℕ → ℕ → List Bool
-listLater k h w = drop k (bits 10 h) ++ take k (bits 10 w)
-
-abbrev listData : ℕ → ℕ → List Bool
-listData h w = xors (xors (xors (bits 10 w) (listLater 9 h w)) (xors (listLater 5 h w) (listLater 4 h w))) (xors (listLater 1 h w) (bits 10 h))
-
--- the lists compute to the same ten bits
-unscramble-lists : (h w : ℕ) → listData h w ≡ unscrambled (past h) (bits 10 w)
-unfolding bits xors unscrambled past descrambler unnrzi levels
-unscramble-lists h w = refl
-
-pub unscramble-code : (h w : ℕ)
-    → bitXor
-    (bitXor (bitXor (w % 1024) (h % 1024 / 512 + w % 1024 % 512 * 2))
-    (bitXor (h % 1024 / 32 + w % 1024 % 32 * 32) (h % 1024 / 16 + w % 1024 % 16 * 64)))
-    (bitXor (h % 1024 / 2 + w % 1024 % 2 * 512) (h % 1024))
-    ≡ unscrambleWord h w
-unfolding unscrambleWord
-unscramble-code h w =
-    rw (later 9 1 h w refl, later 5 5 h w refl, later 4 6 h w refl, later 1 9 h w refl, ← number-bits 10 h, ← number-bits 10 w)
-    (simp (number-xors) (ap number (unscramble-lists h w)))
-
--- ---- scrambling, five bits at a time
+-- ---- unscrambling: 1 + x, then 1 + x^5 + x^9
 
 abbrev codeLevels : ℕ → ℕ
 codeLevels x = bitXor (x / 2) x
 
 abbrev listLevels : List Bool → List Bool
 listLevels x = xors (drop 1 x) x
+
+levels-is : (h : ℕ) → codeLevels (h % 1024) ≡ number (listLevels (bits 10 h))
+levels-is h = simp (← (number-bits 10 h), number-shr 1, number-xors)
+
+-- a shift up, in sixteen bits
+abbrev codeUp : ℕ → ℕ → ℕ
+codeUp k x = x * 2 ^ k % 65536
+
+abbrev listUp : ℕ → List Bool → List Bool
+listUp k x = take 16 (replicate k false ++ x)
+
+up-is : (k : ℕ) (x : List Bool) → codeUp k (number x) ≡ number (listUp k x)
+up-is k x = simp (number-shl k) (number-mod 16 (replicate k false ++ x))
+
+abbrev codeData : ℕ → ℕ → ℕ
+codeData g u = bitXor (bitXor (bitXor u (g / 512)) (bitXor (codeUp 5 u) (g / 16))) (bitXor (codeUp 9 u) g) % 1024
+
+abbrev listData : List Bool → List Bool → List Bool
+listData g u = take 10 (xors (xors (xors u (drop 9 g)) (xors (listUp 5 u) (drop 4 g))) (xors (listUp 9 u) g))
+
+data-is : (g u : List Bool) → codeData (number g) (number u) ≡ number (listData g u)
+data-is g u = simp (up-is 5, up-is 9, number-shr 9, number-shr 4, number-xors, number-mod 10)
+
+-- the lists compute to the same ten bits
+unscramble-lists : (h w : ℕ) → listData (listLevels (bits 10 h)) (xors (bits 16 w) (listUp 1 (bits 16 w))) ≡ unscrambled (past h) (bits 10 w)
+unfolding bits xors unscrambled past descrambler unnrzi levels
+unscramble-lists h w = simp ⊕-false
+
+-- 1 + x on the word
+once-is : (w : ℕ) → w < 65536 → bitXor w (codeUp 1 w) ≡ number (xors (bits 16 w) (listUp 1 (bits 16 w)))
+once-is w l =
+    ap (λ (x : ℕ). bitXor x (codeUp 1 x)) (sym (number-bits 16 w ∙ mod-eq-of-lt l))
+    ∙ ap (bitXor (number (bits 16 w))) (up-is 1 (bits 16 w)) ∙ number-xors _ _
+
+pub unscramble-code : (h w : ℕ) → w < 65536 → codeData (codeLevels (h % 1024)) (bitXor w (codeUp 1 w)) ≡ unscrambleWord h w
+unfolding unscrambleWord
+unscramble-code h w l = ap₂ codeData (levels-is h) (once-is w l) ∙ data-is _ _ ∙ ap number (unscramble-lists h w)
+
+-- ---- scrambling, five bits at a time
 
 abbrev codeLow : ℕ → ℕ → ℕ
 codeLow s d = bitXor (bitXor d (s / 16)) s % 32
@@ -89,10 +97,9 @@ pub scrambler-code : (h d : ℕ) →
 scrambler-code h d =
     let s = listLevels (bits 10 h) in
     let low = listLow s (bits 10 d) in
-    let es : codeLevels (h % 1024) ≡ number s = simp (← (number-bits 10 h), number-shr 1, number-xors) in
     let el : codeLow (number s) (number (bits 10 d)) ≡ number low = low-is s (bits 10 d) in
     let eh = high-is s (bits 10 d) low (length-between h) in
-    rw (es, ← (number-bits 10 d), el, eh, number-join 5 low (listHigh s (bits 10 d) low) (length-low h d)) (ap number (scrambler-lists h d))
+    rw (levels-is h, ← (number-bits 10 d), el, eh, number-join 5 low (listHigh s (bits 10 d) low) (length-low h d)) (ap number (scrambler-lists h d))
 
 -- ---- NRZI: a running xor, by doubling
 

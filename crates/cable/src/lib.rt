@@ -13,18 +13,16 @@ pub struct Coded {
     pub history: u16,
 }
 
-// Ten data bits from ten cable bits after a history: the twenty bits one, four, five, nine and ten later than those of the history. All fits
-// sixteen bits, so that a loop over words takes many at once.
+// Ten data bits from ten cable bits after a history: with x for one bit before, d = (1 + x)(1 + x^5 + x^9), so each factor is applied to the ten
+// bits of the word, and to those of the history for the bits that look back. All fits sixteen bits, so that a loop over words takes many at once;
+// what a shift leaves above the tenth bit is cut off once, at the end.
 pub fn unscramble_word(history: u16, word: u16) -> u16
     ensures { λ r. ⌜ r ≡ unscrambleWord history word ⌝ }
 {
     let h = history % 1024;
-    let w = word % 1024;
-    let one = h / 2 + w % 2 * 512;
-    let four = h / 16 + w % 16 * 64;
-    let five = h / 32 + w % 32 * 32;
-    let nine = h / 512 + w % 512 * 2;
-    (w ^ nine) ^ (five ^ four) ^ (one ^ h)
+    let g = (h / 2) ^ h;
+    let u = word ^ (word << 1);
+    ((u ^ (g / 512)) ^ ((u << 5) ^ (g / 16)) ^ ((u << 9) ^ g)) % 1024
 }
 
 // The scrambled bits of ten data bits, five at a time: the first five look back into the history alone, the others into those.

@@ -1,2 +1,3 @@
-pub mod TwoWords
-pub mod Channels
+pub mod Later
+pub mod Folding
+pub mod Stores

@@ -1,13 +1,18 @@
 // The CRC registers of both channels at once.
-pub mod double;
-
 ghost use mathlib.Core.Path.{_≡_};
-ghost use Prim.Native.Nat.{_*_, _≤_};
-ghost use lib.ListN.{drop};
-ghost use Rattle.crc.specs.Crc.{crcWords};
+ghost use Prim.Native.Nat.{ℕ, _+_, _≤_, _<_};
+ghost use lib.Bits.{bitXor};
+ghost use lib.ListN.{length, getD, take, drop, replicate};
+ghost use Rattle.crc.specs.Crc.{crcWords, crcStart};
 ghost use Rattle.crcs.specs.Channels.{crcChannels};
 use crc::sheet::STEPS;
-use double::DOUBLE;
+
+// A word may be taken out of a stretch and be xor-ed into those 152, 176 and 304 places on, where so many follow: the polynomial divides
+// 1 + y^128 + y^152 + y^304, where y is ten bits of 0. So 304 words stand for a whole stretch. The distances are multiples of eight, and
+// no word waits for one that was made just before: many are folded at once.
+const BACK: usize = 304;
+
+const BLOCK: usize = 512;
 
 // The registers of the channels Y and C.
 pub struct Registers {
@@ -15,50 +20,117 @@ pub struct Registers {
     pub c: u32,
 }
 
-// How many turns of two words both lengths have.
-fn turns(y: usize, c: usize) -> usize
-    ensures { λ r. ⌜ (r * 2 ≤ y) × (r * 2 ≤ c) ⌝ }
+// Takes n words out from a place on: s holds the last 304 that were taken out, and after them come these.
+fn fold_block(words: &[u16], at: usize, n: usize, s: &mut [u16; 816])
+    requires { ⌜ (at + n ≤ length (now words)) × (n ≤ 512) × (length (now s) ≡ 816) ⌝ }
+    ensures { λ _. ⌜ (length (now (s .exit)) ≡ 816) × (take 304 (now (s .exit)) ≡ take 304 (now (s .entry)))
+        × ((j : ℕ) → j < n → getD (now (s .exit)) (j + 304) 0
+        ≡ bitXor (bitXor (bitXor (getD (now (words .entry)) (at + j) 0) (getD (now (s .exit)) j 0)) (getD (now (s .exit)) (j + 128) 0))
+        (getD (now (s .exit)) (j + 152) 0)) ⌝ }
 {
-    if y < c {
-        return y / 2;
+    let mut i = 0;
+    while i < n {
+        s[i + 304] = words[at + i] ^ s[i] ^ s[i + 128] ^ s[i + 152];
+        i += 1;
     }
-    c / 2
 }
 
-// The register after the words from a place on. Where there are none the sheet is not laid out.
-fn step_rest(register: u32, words: &[u16], from: usize) -> u32
-    ensures { λ r. ⌜ r ≡ crcWords register (drop from (now (words .entry))) ⌝ }
+// Keeps the last 304 words that were taken out, after n were.
+fn move_down(s: &mut [u16; 816], n: usize)
+    requires { ⌜ (n ≤ 512) × (length (now s) ≡ 816) ⌝ }
+    ensures { λ _. ⌜ (length (now (s .exit)) ≡ 816) × (take 304 (now (s .exit)) ≡ take 304 (drop n (now (s .entry)))) ⌝ }
 {
-    if words.len() <= from {
-        return register;
+    let mut i = 0;
+    while i < BACK {
+        s[i] = s[n + i];
+        i += 1;
     }
-    crc::step_words(register, &words[from..])
 }
 
-// The registers after the words of two channels, from zero, whatever they are. A word's lookup waits for that of the word before, so a turn takes two
-// words of each channel, whose four lookups do not wait for one another. Of a register's eighteen bits none is left after two words.
-pub fn step_channels(y: &[u16], c: &[u16]) -> Registers
+// Xors the words from a place on into the first of a tail.
+fn xor_in(tail: &mut [u16; 304], words: &[u16], from: usize)
+    requires { ⌜ (length (now tail) ≡ 304) × (length (now words) ≡ 304) × (from ≤ 304) ⌝ }
+    ensures { λ _. ⌜ (length (now (tail .exit)) ≡ 304) × ((j : ℕ) → j < 304 → getD (now (tail .exit)) j 0 ≡ bitXor (getD (now (tail .entry)) j 0) (getD (now (words .entry)) (from + j) 0)) ⌝ }
+{
+    let end = BACK - from;
+    let mut i = 0;
+    while i < end {
+        tail[i] = tail[i] ^ words[from + i];
+        i += 1;
+    }
+}
+
+// The last 304 words, into which those that were taken out before them are xor-ed.
+fn finish(words: &[u16], s: &[u16], tail: &mut [u16; 304])
+    requires { ⌜ (length (now words) ≡ 304) × (length (now s) ≡ 304) × (now tail ≡ replicate 304 0) ⌝ }
+    ensures { λ _. ⌜ (length (now (tail .exit)) ≡ 304) × ((j : ℕ) → j < 304 → getD (now (tail .exit)) j 0
+        ≡ bitXor (bitXor (bitXor (getD (now (words .entry)) j 0) (getD (now (s .entry)) j 0)) (getD (now (s .entry)) (128 + j) 0))
+        (getD (now (s .entry)) (152 + j) 0)) ⌝ }
+{
+    xor_in(tail, words, 0);
+    xor_in(tail, s, 0);
+    xor_in(tail, s, 128);
+    xor_in(tail, s, 152);
+}
+
+// How many words the next block takes out.
+fn block(left: usize) -> usize
+    ensures { λ r. ⌜ (r ≤ 512) × (r ≤ left) × (0 < left → 0 < r) ⌝ }
+{
+    if left < BLOCK {
+        return left;
+    }
+    BLOCK
+}
+
+// Folds words into a tail of zeros, from which the register becomes the same. Words in front of which zeros stand leave it the same too.
+fn fold(words: &[u16], tail: &mut [u16; 304])
+    requires { ⌜ now tail ≡ replicate 304 0 ⌝ }
+    ensures { λ _. ⌜ (length (now (tail .exit)) ≡ 304) × (crcWords crcStart (now (tail .exit)) ≡ crcWords crcStart (now (words .entry))) ⌝ }
+{
+    let n = words.len();
+    if n < BACK {
+        parts::lay(tail, BACK - n, words);
+        return;
+    }
+    let end = n - BACK;
+    let mut s = [0u16; 816];
+    let mut at = 0;
+    while at < end {
+        let count = block(end - at);
+        fold_block(words, at, count, &mut s);
+        move_down(&mut s, count);
+        at += count;
+    }
+    finish(&words[at..n], &s[0..BACK], tail);
+}
+
+// The registers after two tails, by the service sheet. A word's lookup waits for that of the word before, and not for the other channel's.
+fn step_tails(y: &[u16], c: &[u16]) -> Registers
+    requires { ⌜ length (now y) ≡ length (now c) ⌝ }
     ensures { λ r. ⌜ r ≡ crcChannels (now (y .entry)) (now (c .entry)) ⌝ }
 {
     let steps = STEPS;
-    let double = DOUBLE;
-    let end = turns(y.len(), c.len());
     let mut ry = 0;
     let mut rc = 0;
-    let mut turn = 0;
-    while turn < end {
-        let at = turn * 2;
-        let y0 = (ry ^ y[at] as u32) % 1024;
-        let y1 = ((ry / 1024) ^ y[at + 1] as u32) % 1024;
-        let c0 = (rc ^ c[at] as u32) % 1024;
-        let c1 = ((rc / 1024) ^ c[at + 1] as u32) % 1024;
-        ry = double[y0 as usize] ^ steps[y1 as usize];
-        rc = double[c0 as usize] ^ steps[c1 as usize];
-        turn += 1;
+    let mut i = 0;
+    while i < y.len() {
+        let iy = (ry ^ y[i] as u32) % 1024;
+        let ic = (rc ^ c[i] as u32) % 1024;
+        ry = steps[iy as usize] ^ (ry / 1024);
+        rc = steps[ic as usize] ^ (rc / 1024);
+        i += 1;
     }
-    let done = turn * 2;
-    Registers {
-        y: step_rest(ry, y, done),
-        c: step_rest(rc, c, done),
-    }
+    Registers { y: ry, c: rc }
+}
+
+// The registers after the words of two channels, from zero, whatever they are.
+pub fn step_channels(y: &[u16], c: &[u16]) -> Registers
+    ensures { λ r. ⌜ r ≡ crcChannels (now (y .entry)) (now (c .entry)) ⌝ }
+{
+    let mut ty = [0u16; 304];
+    let mut tc = [0u16; 304];
+    fold(y, &mut ty);
+    fold(c, &mut tc);
+    step_tails(&ty, &tc)
 }

@@ -127,7 +127,7 @@ fn with_output(args: &[u32], at: usize, bytes: &[u8]) {
 }
 
 fn read_words(reader: Reader, bytes: &[u8], words: &mut [u16]) {
-    let run = reader.read_words(bytes, words);
+    let run = section::read_words(reader, bytes, words);
     first(run.words as u64);
     then_reader(run.reader);
     then(words.len() as u64);

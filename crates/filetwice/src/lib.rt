@@ -6,7 +6,7 @@ use jobs::Taken;
 use line::Line;
 use reader::Read;
 use reader::Reader;
-use reader::Run;
+use section::Run;
 ghost use mathlib.Core.Path.{_≡_};
 
 pub struct TwoReaders {
@@ -69,8 +69,8 @@ pub fn read(reader: Reader, byte: u8) -> TwoRead
 pub fn read_words(reader: Reader, bytes: &[u8], a: &mut [u16], b: &mut [u16]) -> TwoRuns
     ensures { λ r. ⌜ (now (a .entry) ≡ now (b .entry) → (r .first ≡ r .second) × (now (a .exit) ≡ now (b .exit))) ⌝ }
 {
-    let first = reader.read_words(bytes, a);
-    let second = reader.read_words(bytes, b);
+    let first = section::read_words(reader, bytes, a);
+    let second = section::read_words(reader, bytes, b);
     TwoRuns { first, second }
 }
 

@@ -16,14 +16,16 @@ use Rattle.session.specs.Session.{feedRefusal, fedBy, fedRun, fed, fedY, fedC}
 use Rattle.session.proofs.Refusing.{feed-taken}
 use Rattle.reader.specs.declared.Read.{Read}
 use Rattle.reader.specs.declared.Reader.{Reader}
-use Rattle.reader.specs.declared.Run.{Run}
-use Rattle.reader.specs.Reader.{wordOf, wordsIn, wordsAhead, afterWords, runSize, runOf, runWords, ofLowByte, readOf}
-use Rattle.reader.proofs.Words.{first-over}
-use Rattle.reader.proofs.Runs.{low-read, high-read, after-step, ahead-step}
+use Rattle.section.specs.declared.Run.{Run}
+use Rattle.reader.specs.Reader.{wordOf, ofLowByte, readOf}
+use Rattle.section.specs.Section.{wordsIn, wordsAhead, afterWords, runSize, runOf, runWords}
+use Rattle.section.proofs.Words.{first-over}
+use Rattle.section.proofs.Runs.{low-read, high-read, after-step, ahead-step}
 use Rattle.module.specs.Runs.{Bench, bench, fedOnce, fedAll}
 use Rattle.module.proofs.Cuts.{fedAll-of-pieces}
 use Rattle.jobs.specs.declared.Desk.{Desk}
-use Rattle.jobs.specs.Desk.{desk, nothing, turnBy, sessionAfter, yAfter, cAfter, turned, turnedY, turnedC, standing, Standing, Walk, walk, walked}
+use Rattle.jobs.specs.Desk.{desk, nothing, standing, Standing, walk, walked}
+use Rattle.jobs.proofs.Walking.{walkBy, by-read}
 
 -- ---- word by word
 
@@ -31,16 +33,10 @@ use Rattle.jobs.specs.Desk.{desk, nothing, turnBy, sessionAfter, yAfter,
 abbrev deskAt : Reader → Bench → Standing
 deskAt r x = standing (desk r (x .session)) (x .y) (x .c)
 
--- a byte, by what it brings
-abbrev walkBy : Reader → Read → Bench → ℕ → Walk
-walkBy r read x k =
-    let t = turnBy (read .ends) r read (sessionAfter (read .piece) (x .session) (x .y) (x .c)) in
-    walk (standing (t .desk) (yAfter (read .piece) (x .session) (x .y) (x .c)) (cAfter (read .piece) (x .session) (x .y) (x .c))) k (t .outcome)
-
 one-byte : (r : Reader) (x : Bench) (b k : ℕ) (rest : List ℕ) {read : Read} → readOf r b ≡ read
-    → walked (b ∷ rest) (walk (deskAt r x) k nothing) ≡ walked rest (walkBy r read x (k + 1))
-unfolding walked turned turnedY turnedC
-one-byte r x b k rest e = ap (λ (read : Read). walked rest (walkBy r read x (k + 1))) e
+    → walked (b ∷ rest) (walk (deskAt r x) k nothing) ≡ walked rest (walkBy r read (x .session) (x .y) (x .c) (k + 1))
+unfolding walked
+one-byte r x b k rest e = ap (walked rest) (by-read r (x .session) b (x .y) (x .c) k (sym e))
 
 one-word : (r : Reader) (x : Bench) (a b k : ℕ) (bs rest : List ℕ) → 0 < wordsAhead r → wordOf a b ≤ 0x3ff
     → walked (a ∷ b ∷ rest) (walk (deskAt r x) k nothing)

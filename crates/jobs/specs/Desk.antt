@@ -1,9 +1,10 @@
 -- A desk takes the bytes of a bench file as they arrive, and runs a session per job.
-use mathlib.Core.Bool.{Bool, true, false, _&&_}
+use mathlib.Core.Path.{_≡_}
+use mathlib.Core.Bool.{Bool, true, false, not, _&&_}
 use mathlib.Core.List.{List, [], _∷_}
-use Prim.Native.Nat.{ℕ, zero, suc, _+_}
+use Prim.Native.Nat.{ℕ, zero, suc, _+_, _≤_, _<_}
 use lib.Dec.{leb, eqb}
-use lib.ListN.{length}
+use lib.ListN.{length, drop}
 use Rattle.bits.specs.Choice.{if}
 use Rattle.parts.specs.Parts.{unlessRefused}
 use Rattle.tally.specs.declared.Verdict.the-variants as Verdict
@@ -88,6 +89,13 @@ outcomeOf (Chosen code) = nothing
 outcomeOf (Word w) = nothing
 outcomeOf (Refused n) = badFile n
 
+-- a byte that completes nothing and ends no job
+abbrev pub isMore : Piece → Bool → Bool
+isMore More ends = not ends
+isMore (Chosen code) ends = false
+isMore (Word w) ends = false
+isMore (Refused n) ends = false
+
 abbrev pub turn : Desk → Outcome → Turn
 turn d o = record { desk = d; outcome = o }
 
@@ -142,6 +150,16 @@ walked (b ∷ bs) w = if (isNothing (w .outcome .kind)) (walked bs (walkedOne b 
 
 abbrev pub walkOf : Desk → List ℕ → List ℕ → List ℕ → Walk
 walkOf d bs y c = walked bs (walk (standing d y c) 0 nothing)
+
+-- from one place at another, further on and before the end, as if the bytes between had been taken one by one and brought nothing
+pub record Ahead (bs : List ℕ) (x : Standing) (at : ℕ) (x' : Standing) (at' : ℕ) : Type 0 where
+  pub onward : at ≤ at'
+  pub within : at' < length bs
+  pub rest : walked (drop at bs) (walk x at nothing) ≡ walked (drop at' bs) (walk x' at' nothing)
+
+-- .. with a reader that changed alone, whatever stands beside it
+abbrev pub AheadAlone : List ℕ → Reader → ℕ → Reader → ℕ → Type 0
+AheadAlone bs r at r' at' = (s : Session) (y c : List ℕ) → Ahead bs (standing (desk r s) y c) at (standing (desk r' s) y c) at'
 
 -- ---- take
 

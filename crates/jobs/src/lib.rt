@@ -3,13 +3,14 @@ use reader::Piece;
 use reader::Reader;
 use reader::Stage;
 use reader::Tag;
+use session::Ended;
 use session::Session;
 use tally::Counts;
 use tally::Verdict;
 ghost use mathlib.Core.Path.{_≡_};
-ghost use Prim.Native.Nat.{_≤_, _<_};
-ghost use lib.ListN.{length, drop};
-ghost use Rattle.jobs.specs.Desk.{cAfter, finished, freshDesk, isNothing, jobless, nothing, outcomeOf, sessionAfter, standing, taken, takenC, takenY, takeRefusal, turned, turnedC, turnedY, walk, walked, wordsAt, yAfter};
+ghost use Prim.Native.Nat.{_<_};
+ghost use lib.ListN.{length};
+ghost use Rattle.jobs.specs.Desk.{Ahead, AheadAlone, cAfter, desk, done, finished, freshDesk, isMore, isNothing, jobless, jobOf, outcomeOf, sessionAfter, standing, taken, takenC, takenY, takeRefusal, turn, turned, turnedC, turnedY, wordsAt, yAfter};
 
 pub struct Job {
     pub tag: Tag,
@@ -38,10 +39,18 @@ pub struct Desk {
     pub session: Session,
 }
 
-// How many words are fed at once.
-const ROOM: usize = 4096;
+// How many words are fed at once. Room for them is cleared each time, so where few are ahead it is room for few.
+const FEW: usize = 256;
 
-// The desk after words that were taken at once, and where the bytes after them start.
+const MANY: usize = 1024;
+
+// The reader after bytes that it read alone, and where the bytes after them start.
+struct Skimmed {
+    reader: Reader,
+    at: usize,
+}
+
+// The desk after bytes that were taken ahead, and where the bytes after them start.
 struct Rushed {
     desk: Desk,
     at: usize,
@@ -100,6 +109,40 @@ fn outcome_of(piece: Piece) -> Outcome
     }
 }
 
+// A job is done: `before` is the reader that has its head.
+fn done_by(before: Reader, ended: Ended) -> Outcome
+    ensures { λ r. ⌜ r ≡ done (jobOf before ended) ⌝ }
+{
+    let tag = before.tag;
+    let counts = ended.counts;
+    let verdict = ended.verdict;
+    let job = Job {
+        tag,
+        raster: ended.raster,
+        wipe: before.options.wipe,
+        counts,
+        verdict,
+    };
+    Outcome {
+        kind: Kind::Done,
+        job,
+    }
+}
+
+fn turn_of(reader: Reader, session: Session, outcome: Outcome) -> Turn
+    ensures { λ r. ⌜ r ≡ turn (desk reader session) outcome ⌝ }
+{
+    let desk = Desk { reader, session };
+    Turn { desk, outcome }
+}
+
+fn rushed_to(at: usize, reader: Reader, session: Session) -> Rushed
+    ensures { λ r. ⌜ r ≡ record { desk = desk reader session; at = at } ⌝ }
+{
+    let desk = Desk { reader, session };
+    Rushed { desk, at }
+}
+
 fn is_nothing(kind: Kind) -> bool
     ensures { λ r. ⌜ r ≡ isNothing kind ⌝ }
 {
@@ -126,6 +169,76 @@ fn words_at(stage: Stage) -> bool
     }
 }
 
+// Whether a byte completes nothing and ends no job: then it changes the reader alone.
+fn is_more(piece: Piece, ends: bool) -> bool
+    ensures { λ r. ⌜ r ≡ isMore piece ends ⌝ }
+{
+    match piece {
+        Piece::More => !ends,
+        Piece::Chosen(_) => false,
+        Piece::Word(_) => false,
+        Piece::Refused(_) => false,
+    }
+}
+
+// Whether the next byte is of a job's head. It spares time: no answer goes by it.
+fn is_head(stage: Stage) -> bool {
+    match stage {
+        Stage::TagCount => true,
+        Stage::TagBytes => true,
+        Stage::OptionsCount => true,
+        Stage::RasterByte => true,
+        Stage::WipeByte => true,
+        Stage::WordCount => true,
+        Stage::LowByte => false,
+        Stage::HighByte => false,
+        Stage::Stopped => false,
+    }
+}
+
+// How many words to make room for, of the bytes from `at` to the last: no more than all that are left but the last, which ends a job.
+// It spares time: how many are taken is for the reader to say.
+fn words_ahead(reader: Reader, at: usize, last: usize) -> usize {
+    let stage = reader.stage;
+    let left = reader.count.left as usize;
+    if is_head(stage) {
+        return 0;
+    }
+    if left < 2 {
+        return 0;
+    }
+    if last <= at {
+        return 0;
+    }
+    if (last - at) / 2 < left {
+        return (last - at) / 2;
+    }
+    left - 1
+}
+
+// Reads bytes of a job's head that complete nothing, with the reader alone, and leaves a byte or more.
+fn skim(mut reader: Reader, bytes: &[u8], at: usize) -> Skimmed
+    requires { ⌜ at < length (now bytes) ⌝ }
+    ensures { λ r. ⌜ AheadAlone (now (bytes .entry)) reader at (r .reader) (r .at) ⌝ }
+{
+    let last = bytes.len() - 1;
+    let mut i = at;
+    while i < last {
+        let stage = reader.stage;
+        if !is_head(stage) {
+            break;
+        }
+        let read = reader.read(bytes[i]);
+        let piece = read.piece;
+        if !is_more(piece, read.ends) {
+            break;
+        }
+        reader = read.reader;
+        i += 1;
+    }
+    Skimmed { reader, at: i }
+}
+
 impl Desk {
     // T of the longest row in the table.
     pub const LONGEST: usize = 4125;
@@ -148,53 +261,48 @@ impl Desk {
     {
         let read = self.reader.read(byte);
         let piece = read.piece;
-        let reader = read.reader;
         let session = session_after(piece, self.session, y, c);
         if !read.ends {
-            let desk = Desk { reader, session };
-            return Turn {
-                desk,
-                outcome: outcome_of(piece),
-            };
+            return turn_of(read.reader, session, outcome_of(piece));
         }
         let ended = session.end();
-        let session = ended.session;
-        let desk = Desk { reader, session };
-        let tag = self.reader.tag;
-        let counts = ended.counts;
-        let verdict = ended.verdict;
-        let job = Job {
-            tag,
-            raster: ended.raster,
-            wipe: self.reader.options.wipe,
-            counts,
-            verdict,
-        };
-        let outcome = Outcome {
-            kind: Kind::Done,
-            job,
-        };
-        Turn { desk, outcome }
+        turn_of(read.reader, ended.session, done_by(self.reader, ended))
     }
 
     // Takes words at once, and leaves a byte or more. Words that `feed` refuses are left too, for the byte that is at fault to be met.
     fn rush(self, bytes: &[u8], at: usize, room: &mut [u16], y: &mut [u16], c: &mut [u16]) -> Rushed
         requires { ⌜ at < length (now bytes) ⌝ }
-        ensures within { λ r. ⌜ (at ≤ r .at) × (r .at < length (now (bytes .entry))) ⌝ }
-        ensures rest { λ r. ⌜ walked (drop at (now (bytes .entry))) (walk (standing self (now (y .entry)) (now (c .entry))) at nothing) ≡ walked (drop (r .at) (now (bytes .entry))) (walk (standing (r .desk) (now (y .exit)) (now (c .exit))) (r .at) nothing) ⌝ }
+        ensures { λ r. ⌜ Ahead (now (bytes .entry)) (standing self (now (y .entry)) (now (c .entry))) at (standing (r .desk) (now (y .exit)) (now (c .exit))) (r .at) ⌝ }
     {
         let last = bytes.len() - 1;
-        let run = self.reader.read_words(&bytes[at..last], room);
+        let run = section::read_words(self.reader, &bytes[at..last], room);
         let n = run.words;
         let end = at + 2 * n;
         let fed = self.session.feed(&room[..n], y, c);
         if fed.refusal != 0 {
             return Rushed { desk: self, at };
         }
-        let reader = run.reader;
-        let session = fed.session;
-        let desk = Desk { reader, session };
-        Rushed { desk, at: end }
+        rushed_to(end, run.reader, fed.session)
+    }
+
+    // Takes what need not go through a turn: of a job's head, and then words. Leaves a byte or more.
+    fn hasten(self, bytes: &[u8], at: usize, y: &mut [u16], c: &mut [u16]) -> Rushed
+        requires { ⌜ at < length (now bytes) ⌝ }
+        ensures { λ r. ⌜ Ahead (now (bytes .entry)) (standing self (now (y .entry)) (now (c .entry))) at (standing (r .desk) (now (y .exit)) (now (c .exit))) (r .at) ⌝ }
+    {
+        let skimmed = skim(self.reader, bytes, at);
+        let start = rushed_to(skimmed.at, skimmed.reader, self.session);
+        let from = start.at;
+        let ahead = words_ahead(skimmed.reader, from, bytes.len() - 1);
+        if ahead == 0 {
+            return start;
+        }
+        if ahead <= FEW {
+            let mut few = [0u16; FEW];
+            return start.desk.rush(bytes, from, &mut few, y, c);
+        }
+        let mut many = [0u16; MANY];
+        start.desk.rush(bytes, from, &mut many, y, c)
     }
 
     // The refusal of taking; 7, 1.
@@ -235,13 +343,12 @@ impl Desk {
                 outcome,
             };
         }
-        let mut room = [0u16; ROOM];
         while at < bytes.len() {
             let kind = outcome.kind;
             if !is_nothing(kind) {
                 break;
             }
-            let rushed = desk.rush(bytes, at, &mut room, y, c);
+            let rushed = desk.hasten(bytes, at, y, c);
             let next = rushed.at;
             let turn = rushed.desk.turn(bytes[next], y, c);
             desk = turn.desk;

@@ -12,9 +12,7 @@ use borrow.Author.Tests.{lt-ltb, ltb-true, ltb-false}
 use Rattle.line.specs.declared.Line.{Line}
 use Rattle.line.specs.Line.{boxed}
 use Rattle.line.specs.Pushing.{pushed, written}
-
-abbrev line : List ℕ → ℕ → Line
-line bytes size = record { bytes = bytes; size = size }
+use Rattle.line.proofs.Writing.{line}
 
 -- a byte after the text takes a zero's place; a zero more past the end is not seen
 set-after : (n m b : ℕ) (t : List ℕ) → length t < n → n ≤ length t + suc m

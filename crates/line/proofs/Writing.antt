@@ -1,10 +1,11 @@
 -- Laws of written: text after text, a turn of the loop and its end, and a number's last digit.
 use mathlib.Core.Path.{_≡_, refl, sym, ap, ap₂, _∙_}
 use mathlib.Core.List.{List, [], _∷_, _++_}
-use Prim.Native.Nat.{ℕ, _+_, _/_, _%_, _^_, _≤_, _<_}
+use Prim.Native.Nat.{ℕ, suc, _+_, _/_, _%_, _^_, _≤_, _<_}
 use native.Mathlib.Numerals.{add-one}
-use lib.ListN.{length, drop, getD, drop-of-length-le}
+use lib.ListN.{length, drop, getD, set, drop-of-length-le}
 use lib.Seq.{drop-cons}
+use borrow.Author.Tests.{lt-ltb, le-ltb}
 use Rattle.line.specs.declared.Line.{Line}
 use Rattle.line.specs.Line.{decimal, digit}
 use Rattle.line.specs.Pushing.{pushed, written}
@@ -15,9 +16,23 @@ unfolding written
 written-append [] ys l = refl
 written-append (x ∷ xs) ys l = written-append xs ys (pushed x l)
 
-pub written-step : (i : ℕ) (xs : List ℕ) (l : Line) → i < length xs → written (drop i xs) l ≡ written (drop (i + 1) xs) (pushed (getD xs i 0) l)
+abbrev pub line : List ℕ → ℕ → Line
+line bytes size = record { bytes = bytes; size = size }
+
+-- a byte that fits; and nothing does in a full line
+pushed-here : (b : ℕ) (bytes : List ℕ) (at : ℕ) → at < 96 → pushed b (line bytes at) ≡ line (set bytes at b) (at + 1)
+unfolding pushed
+pushed-here b bytes at h = rw (lt-ltb at 96 h)
+
+pub written-step : (i : ℕ) (xs bytes : List ℕ) (at : ℕ) → i < length xs → at < 96
+    → written (drop i xs) (line bytes at) ≡ written (drop (i + 1) xs) (line (set bytes at (getD xs i 0)) (at + 1))
 unfolding written
-written-step i xs l h = rw (add-one, drop-cons xs i 0)
+written-step i xs bytes at h k = rw (add-one i, drop-cons xs i 0) (ap (written (drop (suc i) xs)) (pushed-here (getD xs i 0) bytes at k))
+
+pub written-full : (xs : List ℕ) (l : Line) → 96 ≤ l .size → written xs l ≡ l
+unfolding written pushed
+written-full [] l h = refl
+written-full (x ∷ xs) l h = rw (le-ltb (l .size) 96 h) (written-full xs l h)
 
 pub written-end : (i : ℕ) (xs : List ℕ) (l : Line) → length xs ≤ i → written (drop i xs) l ≡ l
 unfolding written

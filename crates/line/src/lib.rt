@@ -41,16 +41,22 @@ impl Line {
         }
     }
 
+    // The bytes are kept in one array and the line is made once, not a line for each byte.
     fn write(self, text: &[u8]) -> Line
         ensures { λ r. ⌜ r ≡ written (now (text .entry)) self ⌝ }
     {
-        let mut line = self;
+        let mut bytes = self.bytes;
+        let mut at = self.size;
         let mut i = 0;
         while i < text.len() {
-            line = line.push(text[i]);
+            if 96 <= at {
+                break;
+            }
+            bytes[at] = text[i];
+            at += 1;
             i += 1;
         }
-        line
+        Line { bytes, size: at }
     }
 
     fn write_tag(self, tag: Tag) -> Line

@@ -1,9 +1,8 @@
 -- A bench file, a byte at a time: "Each: tag, options (raster, wipe), words; every section after its count".
 use mathlib.Core.Bool.{Bool, true, false, not, _&&_}
-use mathlib.Core.List.{List, [], _∷_, _++_}
-use Prim.Native.Nat.{ℕ, zero, suc, _+_, _-_, _*_, _/_, min}
+use Prim.Native.Nat.{ℕ, _+_, _-_, _*_, _/_}
 use lib.Dec.{leb, ltb, eqb}
-use lib.ListN.{length, getD, take, drop, replicate, set}
+use lib.ListN.{replicate, set}
 use Rattle.bits.specs.Choice.{if}
 use Rattle.raster.specs.Table.{rasterOk}
 use Rattle.reader.specs.declared.Stage.{Stage}
@@ -15,7 +14,6 @@ use Rattle.reader.specs.declared.Reader.{Reader}
 use Rattle.reader.specs.declared.Piece.{Piece}
 use Rattle.reader.specs.declared.Piece.the-variants.{More, Chosen, Word, Refused}
 use Rattle.reader.specs.declared.Read.{Read}
-use Rattle.reader.specs.declared.Run.{Run}
 
 -- ---- the tests of the sections
 
@@ -174,45 +172,3 @@ cutAt Stopped seen = false
 
 unfoldable pub isCut : Reader → Bool
 isCut r = cutAt (r .stage) (r .count .seen)
-
--- ---- many words at once
-
--- the words of bytes
-unfoldable pub wordsIn : List ℕ → List ℕ
-wordsIn [] = []
-wordsIn (a ∷ []) = []
-wordsIn (a ∷ b ∷ bs) = wordOf a b ∷ wordsIn bs
-
--- the first of them laid over words, of which the others stay
-abbrev pub wordsOver : ℕ → List ℕ → List ℕ → List ℕ
-wordsOver n bs ws = take n (wordsIn bs) ++ drop n ws
-
-abbrev pub startsNoWord : Stage → Bool
-startsNoWord TagCount = true
-startsNoWord TagBytes = true
-startsNoWord OptionsCount = true
-startsNoWord RasterByte = true
-startsNoWord WipeByte = true
-startsNoWord WordCount = true
-startsNoWord LowByte = false
-startsNoWord HighByte = true
-startsNoWord Stopped = true
-
--- all words that are left but the last, which ends a job; none where no word starts
-unfoldable pub wordsAhead : Reader → ℕ
-wordsAhead r = if (startsNoWord (r .stage)) 0 (r .count .left - 1)
-
--- .. as many of them as there are bytes and room for
-abbrev pub runSize : Reader → List ℕ → ℕ → ℕ
-runSize r bs room = min (wordsAhead r) (min (length bs / 2) room)
-
--- after so many words, as if their bytes were read one by one and none refused: the low byte of the last stays
-unfoldable pub afterWords : ℕ → Reader → List ℕ → Reader
-afterWords zero r bs = r
-afterWords (suc n) r bs = reader LowByte (count (r .count .left - suc n) 0) (getD bs (2 * n) 0) (r .tag) (r .options)
-
-abbrev pub runOf : Reader → List ℕ → ℕ → Run
-runOf r bs room = record { reader = afterWords (runSize r bs room) r bs; words = runSize r bs room }
-
-abbrev pub runWords : Reader → List ℕ → List ℕ → List ℕ
-runWords r bs ws = wordsOver (runSize r bs (length ws)) bs ws

@@ -1,8 +1,7 @@
-// A bench file, a byte at a time, or words of a section at once: tag, options, words, each section after its count. Nothing is sized by a count.
+// A bench file, a byte at a time: tag, options, words, each section after its count. Nothing is sized by a count.
 ghost use mathlib.Core.Path.{_≡_};
-ghost use Prim.Native.Nat.{_*_, _≤_, _<_, min};
-ghost use lib.ListN.{length};
-ghost use Rattle.reader.specs.Reader.{afterWords, blank, brings, chooses, counted, ends, fresh, goesOn, isCut, ofHighByte, ofLowByte, ofOptionsCount, ofRasterByte, ofTagByte, ofTagCount, ofWipeByte, ofWordCount, readOf, refused, runOf, runWords, startsNoWord, tagged, tagWith, waits, wordOf, wordsAhead, wordsOver};
+ghost use Prim.Native.Nat.{_<_};
+ghost use Rattle.reader.specs.Reader.{blank, brings, chooses, counted, ends, fresh, goesOn, isCut, ofHighByte, ofLowByte, ofOptionsCount, ofRasterByte, ofTagByte, ofTagCount, ofWipeByte, ofWordCount, readOf, refused, tagged, tagWith, waits, wordOf};
 
 // What the next byte is of.
 pub enum Stage {
@@ -57,12 +56,6 @@ pub struct Read {
     pub reader: Reader,
 }
 
-// Words that were read at once: how many, and the reader after them.
-pub struct Run {
-    pub reader: Reader,
-    pub words: usize,
-}
-
 // A reader with nothing of any job.
 fn blank_at(stage: Stage) -> Reader
     ensures { λ r. ⌜ r ≡ blank stage ⌝ }
@@ -89,43 +82,6 @@ fn word_of(low: u8, high: u8) -> u16
     ensures { λ r. ⌜ r ≡ wordOf low high ⌝ }
 {
     low as u16 + high as u16 * 256
-}
-
-// Lays the first words of the bytes over the first of `words`; a plain loop, which a compiler makes wide.
-fn lay_words(bytes: &[u8], n: usize, words: &mut [u16])
-    requires { ⌜ (2 * n ≤ length (now bytes)) × (n ≤ length (now words)) ⌝ }
-    ensures { λ _. ⌜ now (words .exit) ≡ wordsOver n (now (bytes .entry)) (now (words .entry)) ⌝ }
-{
-    let mut i = 0;
-    while i < n {
-        words[i] = word_of(bytes[2 * i], bytes[2 * i + 1]);
-        i += 1;
-    }
-}
-
-fn fewer(a: usize, b: usize) -> usize
-    ensures { λ r. ⌜ r ≡ min a b ⌝ }
-{
-    if a <= b {
-        return a;
-    }
-    b
-}
-
-fn starts_no_word(stage: Stage) -> bool
-    ensures { λ r. ⌜ r ≡ startsNoWord stage ⌝ }
-{
-    match stage {
-        Stage::TagCount => true,
-        Stage::TagBytes => true,
-        Stage::OptionsCount => true,
-        Stage::RasterByte => true,
-        Stage::WipeByte => true,
-        Stage::WordCount => true,
-        Stage::LowByte => false,
-        Stage::HighByte => true,
-        Stage::Stopped => true,
-    }
 }
 
 fn bring(piece: Piece, reader: Reader) -> Read
@@ -377,46 +333,6 @@ impl Reader {
             return end(Piece::Word(word));
         }
         bring(Piece::Word(word), self.go_on(Stage::LowByte, left - 1))
-    }
-
-    // How many words may be read at once: all that are left but the last, which ends a job; none where no word starts here.
-    fn words_ahead(self) -> usize
-        ensures { λ r. ⌜ r ≡ wordsAhead self ⌝ }
-    {
-        let stage = self.stage;
-        let left = self.count.left as usize;
-        if starts_no_word(stage) {
-            return 0;
-        }
-        if left == 0 {
-            return 0;
-        }
-        left - 1
-    }
-
-    // After so many words, with which the bytes start.
-    fn after_words(self, n: usize, bytes: &[u8]) -> Reader
-        requires { ⌜ (n ≤ self .count .left) × (2 * n ≤ length (now bytes)) ⌝ }
-        ensures { λ r. ⌜ r ≡ afterWords n self (now (bytes .entry)) ⌝ }
-    {
-        if n == 0 {
-            return self;
-        }
-        let left = self.count.left - n as u32;
-        let read = self.of_low_byte(bytes[2 * n - 2]);
-        let reader = read.reader;
-        reader.go_on(Stage::LowByte, left)
-    }
-
-    // Reads words at once into the first places of `words`: as many as may be and there are bytes and room for. None above 3FF is refused here.
-    pub fn read_words(self, bytes: &[u8], words: &mut [u16]) -> Run
-        ensures answer { λ r. ⌜ r ≡ runOf self (now (bytes .entry)) (length (now (words .entry))) ⌝ }
-        ensures output { λ _. ⌜ now (words .exit) ≡ runWords self (now (bytes .entry)) (now (words .entry)) ⌝ }
-    {
-        let n = fewer(self.words_ahead(), fewer(bytes.len() / 2, words.len()));
-        lay_words(bytes, n, words);
-        let reader = self.after_words(n, bytes);
-        Run { reader, words: n }
     }
 
     // Takes a byte.

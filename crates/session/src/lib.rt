@@ -238,8 +238,7 @@ impl Session {
         }
         let raster = self.raster;
         let total = raster::raster_of(raster).raster.layout.total as u32;
-        let state = self.state
-            .take_words(raster, total, self.history, words, y, c);
+        let state = taking::take_words(self.state, raster, total, self.history, words, y, c);
         let session = Session {
             running: true,
             raster,

@@ -113,7 +113,24 @@ pub fn verdict_of(seen: bool, lines: u32, counts: Counts) -> TwoVerdicts
     TwoVerdicts { first, second }
 }
 
-// The same words, with their row buffers in two pairs of slices.
+// The same word, and the same words, with their row buffers in two pairs of slices.
+pub fn take_word(
+    state: State,
+    raster: u32,
+    total: u32,
+    word: u16,
+    y: &mut [u16],
+    c: &mut [u16],
+    u: &mut [u16],
+    d: &mut [u16],
+) -> TwoStates
+    ensures { λ r. ⌜ (now (y .entry) ≡ now (u .entry) → now (c .entry) ≡ now (d .entry) → (r .first ≡ r .second) × ((now (y .exit) ≡ now (u .exit)) × (now (c .exit) ≡ now (d .exit)))) ⌝ }
+{
+    let first = state.take_word(raster, total, word, y, c);
+    let second = state.take_word(raster, total, word, u, d);
+    TwoStates { first, second }
+}
+
 pub fn take_words(
     state: State,
     raster: u32,
@@ -127,8 +144,8 @@ pub fn take_words(
 ) -> TwoStates
     ensures { λ r. ⌜ (now (y .entry) ≡ now (u .entry) → now (c .entry) ≡ now (d .entry) → (r .first ≡ r .second) × ((now (y .exit) ≡ now (u .exit)) × (now (c .exit) ≡ now (d .exit)))) ⌝ }
 {
-    let first = state.take_words(raster, total, history, words, y, c);
-    let second = state.take_words(raster, total, history, words, u, d);
+    let first = taking::take_words(state, raster, total, history, words, y, c);
+    let second = taking::take_words(state, raster, total, history, words, u, d);
     TwoStates { first, second }
 }
 

@@ -1,10 +1,12 @@
 -- A step: one unscrambled bit is recognised, judged, tallied, laid.
-use mathlib.Core.Bool.{Bool}
+use mathlib.Core.Bool.{Bool, true, false}
 use mathlib.Core.List.{List, [], _∷_, _++_}
 use Prim.Native.Nat.{ℕ}
 use Rattle.parts.specs.Parts.{part}
 use Rattle.recogniser.specs.declared.Event.{Event}
+use Rattle.recogniser.specs.declared.Event.the-variants.{Outside, Within, Pair, Opens, Whole, Early, Late, Astray}
 use Rattle.recogniser.specs.declared.Looked.{Looked}
+use Rattle.recogniser.specs.declared.Sight.{Sight}
 use Rattle.recogniser.specs.Sight.{cWord, yWord}
 use Rattle.recogniser.specs.Event.{looked}
 use Rattle.judging.specs.declared.Happening.{Happening}
@@ -51,6 +53,21 @@ stepped lay code total b x =
 unfoldable pub steps : Laying → ℕ → ℕ → List Bool → Run → Run
 steps lay code total [] x = x
 steps lay code total (b ∷ bs) x = steps lay code total bs (stepped lay code total b x)
+
+-- the same state, with this in sight
+abbrev pub seeing : State → Sight → State
+seeing s sight = record { sight = sight; track = s .track; counts = s .counts }
+
+-- what changes only what is seen
+abbrev pub isQuiet : Event → Bool
+isQuiet Outside = true
+isQuiet Within = true
+isQuiet Pair = false
+isQuiet Opens = false
+isQuiet Whole = false
+isQuiet Early = false
+isQuiet Late = false
+isQuiet Astray = false
 
 -- the happenings, in order
 unfoldable pub traced : Laying → ℕ → ℕ → List Bool → Run → List Happening

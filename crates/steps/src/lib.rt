@@ -177,7 +177,7 @@ fn take_words(args: &[u32], words: &[u16], y: &mut [u16], c: &mut [u16]) {
     let raster = session.raster;
     let total = raster::raster_of(raster).raster.layout.total % 65536;
     let before = session.state;
-    let state = before.take_words(raster, total as u32, session.history, words, y, c);
+    let state = taking::take_words(before, raster, total as u32, session.history, words, y, c);
     first(low_half(state.sight));
     rest_of_state(state);
     then_rows(y, c);

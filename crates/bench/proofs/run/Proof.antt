@@ -6,10 +6,10 @@ use Rattle.bench.proofs.run.Statement.{statement}
 use Rattle.bench.proofs.run.Tie as tie
 
 abbrev Inv-loop : tie.InvT-loop
-Inv-loop input₀ y₀ c₀ desk₀ turns₀ input y c desk turns = (length input ≡ length input₀) × (length y ≡ length y₀) × (length c ≡ length c₀)
+Inv-loop input₀ y₀ c₀ out₀ desk₀ turns₀ input y c out desk turns = (length input ≡ length input₀) × (length y ≡ length y₀) × (length c ≡ length c₀)
 
 abbrev μ-loop : tie.MeasureT-loop
-μ-loop input₀ y₀ c₀ desk₀ turns₀ input y c desk turns = turns
+μ-loop input₀ y₀ c₀ out₀ desk₀ turns₀ input y c out desk turns = turns
 
 fresh-requires : tie.Need-fresh-requires Inv-loop μ-loop
 fresh-requires c κs = search needs
@@ -46,32 +46,32 @@ serve-requires c κs = search needs
 
 same-length-4 : tie.Need-same-length-4 Inv-loop μ-loop
 same-length-4 c =
-    let got = c .before .before .before .before .before .before .before .before .before .before .before .before .before .before .before .before in
+    let got = c .before .before .before .before .before .before .before .before .before .before .before .before .before .before .before .before .before in
     got .read .kept .1 .0 ∙ got .before .before .before .loop .inv .0
 
 same-length-5 : tie.Need-same-length-5 Inv-loop μ-loop
 same-length-5 c =
     let served = c .before .before .before .before .before .before .before in
-    served .serve .kept .1 .1 .0 ∙ served .before .before .before .before .before .before .before .before .before .before .before .before .loop .inv .1
+    served .serve .kept .1 .1 .0 ∙ served .before .before .before .before .before .before .before .before .before .before .before .before .before .loop .inv .1
 
 same-length-6 : tie.Need-same-length-6 Inv-loop μ-loop
 same-length-6 c =
     let served = c .before .before .before .before .before .before .before in
-    served .serve .kept .1 .1 .1 .0 ∙ served .before .before .before .before .before .before .before .before .before .before .before .before .loop .inv .2
+    served .serve .kept .1 .1 .1 .0 ∙ served .before .before .before .before .before .before .before .before .before .before .before .before .before .loop .inv .2
 
 returns-2 : tie.Need-returns-2 Inv-loop μ-loop
 returns-2 c = search needs
 
 sub-turns : tie.Need-sub-turns Inv-loop μ-loop
-sub-turns c = omega (arith, c .before .before .before .before .before .before .before .before .before .before .before .before .before .before .before .before .before .before .loop-test .taken)
+sub-turns c = omega (arith, c .before .before .before .before .before .before .before .before .before .before .before .before .before .before .before .before .before .before .before .loop-test .taken)
 
 loop-less : tie.Need-loop-less Inv-loop μ-loop
-loop-less c = omega (arith, c .before .before .before .before .before .before .before .before .before .before .before .before .before .before .before .before .before .before .loop-test .taken)
+loop-less c = omega (arith, c .before .before .before .before .before .before .before .before .before .before .before .before .before .before .before .before .before .before .before .loop-test .taken)
 
 loop-again : tie.Need-loop-again Inv-loop μ-loop
 loop-again c =
     let served = c .before .before .before .before .before .before .before in
-    let got = served .before .before .before .before .before .before .before .before .before in
+    let got = served .before .before .before .before .before .before .before .before .before .before in
     let at = got .before .before .before .loop in
     (got .read .kept .1 .0 ∙ at .inv .0, served .serve .kept .1 .1 .0 ∙ at .inv .1, served .serve .kept .1 .1 .1 .0 ∙ at .inv .2)
 

@@ -4,9 +4,7 @@ use lib.Seq.{length-take-le}
 use borrow.Author.Needs.{needs}
 use Rattle.bench.proofs.write_first.Statement.{statement}
 use Rattle.bench.proofs.write_first.Tie as tie
-
-returns : tie.Need-returns
-returns c = search needs
+use Rattle.io.proofs.write_all.Reads as write-all-reads
 
 slice-aggregate-write-all : tie.Need-slice-aggregate-write-all
 slice-aggregate-write-all c = sym (length-take-le _ _ (omega arith))
@@ -14,8 +12,8 @@ slice-aggregate-write-all c = sym (length-take-le _ _ (omega arith))
 write-all-requires : tie.Need-write-all-requires
 write-all-requires c κs = search needs
 
-returns-2 : tie.Need-returns-2
-returns-2 c = search needs
+returns : tie.Need-returns
+returns c = search needs
 
 pub write-first-spec : {M : Type 1} → statement M
-write-first-spec = tie.close (tie.spec returns slice-aggregate-write-all write-all-requires returns-2)
+write-first-spec = tie.close (tie.spec slice-aggregate-write-all write-all-requires returns)

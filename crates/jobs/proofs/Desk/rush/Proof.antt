@@ -4,6 +4,7 @@ use Prim.Native.Nat.{ℕ, _-_, _*_, _≤_}
 use native.Mathlib.Omega.{arith}
 use lib.ListN.{length, drop, length-take}
 use borrow.Author.Needs.{needs}
+use Rattle.jobs.proofs.Skimming.{ahead-none}
 use Rattle.jobs.proofs.Rushing.{run-within, rushed, unchanged}
 use Rattle.jobs.proofs.Desk.rush.Statement.{statement}
 use Rattle.jobs.proofs.Desk.rush.Tie as tie
@@ -65,7 +66,10 @@ returns c =
     let e = fed .feed .ensures in
     let refused : fed .feed .result .refusal ≡ 0 → ⊥ = λ none. omega (arith, c .if1 .taken) in
     let same = unchanged (from .args .self .session) _ (from .args .y .now) (from .args .c .now) (e .0) (e .1 .0) (e .1 .1) refused in
-    ((omega arith, from .pre), rw (same .0, same .1))
+    rw (same .0, same .1) (ahead-none (from .args .bytes .now) _ (from .args .at) (from .pre))
+
+rushed-to-requires : tie.Need-rushed-to-requires
+rushed-to-requires c κs = search needs
 
 same-length-4 : tie.Need-same-length-4
 same-length-4 c = search needs
@@ -78,15 +82,18 @@ same-length-6 c = search needs
 
 returns-2 : tie.Need-returns-2
 returns-2 c =
-    let fed = c .before .before .before .before .before .before .before .before in
+    let fed = c .before .before .before .before .before .before .before in
     let read = fed .before .before .before .before .before .before in
     let a = start read .args in
     let r = read .read-words .ensures in
     let e = fed .feed .ensures in
-    let taken : fed .feed .result .refusal ≡ 0 = omega (arith, c .before .before .if1 .left) in (
-      (omega arith, omega (arith, fits read)),
-      rushed (a .self) (a .at) (size read) (a .bytes .now) (a .y .now) (a .c .now) (a .room .now) (r .0) (r .1) (e .0) (e .1 .0) (e .1 .1) taken,
-    )
+    let taken : fed .feed .result .refusal ≡ 0 = omega (arith, c .before .if1 .left) in
+    rw (c .rushed-to .ensures)
+    record {
+      onward = omega arith;
+      within = omega (arith, fits read, start read .pre);
+      rest = rushed (a .self) (a .at) (size read) (a .bytes .now) (a .y .now) (a .c .now) (a .room .now) (r .0) (r .1) (e .0) (e .1 .0) (e .1 .1) taken;
+    }
 
 pub rush-spec : {M : Type 1} → statement M
 rush-spec =
@@ -106,6 +113,7 @@ rush-spec =
     same-length-2
     same-length-3
     returns
+    rushed-to-requires
     same-length-4
     same-length-5
     same-length-6

@@ -1,8 +1,8 @@
 -- take: the bytes that are left, from here, give what all give from the start.
 use mathlib.Core.Path.{_≡_, refl, sym, _∙_}
-use Prim.Native.Nat.{ℕ, _-_, _≤_}
+use Prim.Native.Nat.{_-_, _≤_}
 use native.Mathlib.Omega.{arith}
-use lib.ListN.{length, drop, length-replicate}
+use lib.ListN.{length, drop}
 use borrow.Author.Tests.{not-true, not-false}
 use borrow.Author.Needs.{needs}
 use Rattle.parts.proofs.Laid.{unlessRefused-refused}
@@ -13,15 +13,14 @@ use Rattle.jobs.proofs.Desk.take.Statement.{statement}
 use Rattle.jobs.proofs.Desk.take.Tie as tie
 
 abbrev Inv-loop : tie.InvT-loop
-Inv-loop bytes y₀ c₀ refusal desk₀ outcome₀ at₀ room₀ y c desk outcome at room =
+Inv-loop bytes y₀ c₀ refusal desk₀ outcome₀ at₀ y c desk outcome at =
     (at ≤ length bytes)
-    × (length room ≡ 4096)
     × (length y ≡ length y₀)
     × (length c ≡ length c₀)
     × (walkOf desk₀ bytes y₀ c₀ ≡ walked (drop at bytes) (walk (standing desk y c) at outcome))
 
 abbrev μ-loop : tie.MeasureT-loop
-μ-loop bytes y₀ c₀ refusal desk₀ outcome₀ at₀ room₀ y c desk outcome at room = length bytes - at
+μ-loop bytes y₀ c₀ refusal desk₀ outcome₀ at₀ y c desk outcome at = length bytes - at
 
 -- past the first test there is no refusal
 none : (c : tie.Else1 Inv-loop μ-loop)
@@ -51,16 +50,13 @@ returns c =
     )
 
 loop-holds : tie.Need-loop-holds Inv-loop μ-loop
-loop-holds c = (search needs, length-replicate {A = ℕ} 4096 0, refl, refl, rw (c .before .jobless .ensures))
+loop-holds c = (search needs, refl, refl, rw (c .before .jobless .ensures))
 
 is-nothing-requires : tie.Need-is-nothing-requires Inv-loop μ-loop
 is-nothing-requires c κs = search needs
 
-slice-aggregate-rush : tie.Need-slice-aggregate-rush Inv-loop μ-loop
-slice-aggregate-rush c = sym (c .before .before .before .before .loop .inv .1)
-
-rush-requires : tie.Need-rush-requires Inv-loop μ-loop
-rush-requires c κs = search needs
+hasten-requires : tie.Need-hasten-requires Inv-loop μ-loop
+hasten-requires c κs = search needs
 
 shared-slice-read-turn : tie.Need-shared-slice-read-turn Inv-loop μ-loop
 shared-slice-read-turn c = search needs
@@ -70,51 +66,48 @@ turn-requires c κs = search needs
 
 add-at : tie.Need-add-at Inv-loop μ-loop
 add-at c =
-    let rush = c .before .before .before .before .before .before .before .before .before .before .before .before .before .before .before in
-    let start = rush .before .before .before .before .before .before .before .before .before .before .before .before .before .before .before .before in
-    omega (arith, rush .rush .ensures .0, start .good)
+    let ahead = c .before .before .before .before .before .before .before .before .before .before .before .before .before .before in
+    omega (arith, ahead .hasten .ensures .within, ahead .before .before .before .before .before .before .before .before .before .before .before .before .before .before .before .good)
 
 loop-less : tie.Need-loop-less Inv-loop μ-loop
 loop-less c =
-    let rush = c .before .before .before .before .before .before .before .before .before .before .before .before .before .before .before in
-    omega (arith, rush .rush .ensures .0)
+    let ahead = c .before .before .before .before .before .before .before .before .before .before .before .before .before .before .hasten .ensures in
+    omega (arith, ahead .onward, ahead .within)
 
 loop-again : tie.Need-loop-again Inv-loop μ-loop
 loop-again c =
     let turn = c .before .before .before .before .before .before in
-    let rush = turn .before .before .before .before .before .before .before .before .before in
-    let ask = rush .before .before .before .before .before in
+    let ahead = turn .before .before .before .before .before .before .before .before in
+    let ask = ahead .before .before .before .before in
     let test = ask .before in
     let at = test .before .loop in
-    let goes-on = sym (ask .is-nothing .ensures) ∙ not-false (ask .is-nothing .result) (rush .before .before .before .before .if2 .left) in
-    let here = rush .rush .ensures in
+    let goes-on = sym (ask .is-nothing .ensures) ∙ not-false (ask .is-nothing .result) (ahead .before .before .before .if2 .left) in
     let e = turn .turn .ensures in (
-      omega (arith, here .0),
-      turn .before .before .before .before .before .before .before .before .room2 .given,
-      c .before .before .before .before .before .y2 .given ∙ turn .before .before .before .before .before .before .before .y .given ∙ at .inv .2,
-      c .before .before .before .c2 .given ∙ turn .before .before .before .before .before .c .given ∙ at .inv .3,
-      walked-step (at .at) (rush .rush .result .at) _ (at .y) (at .c) _ _ (at .desk) (rush .rush .result .desk) (at .outcome) (at .inv .4) (test .loop-test .taken) goes-on (here .1) (here .0 .1) (e .0) (e .1 .0) (e .1 .1),
+      omega (arith, ahead .hasten .ensures .within),
+      c .before .before .before .before .before .y2 .given ∙ turn .before .before .before .before .before .before .before .y .given ∙ at .inv .1,
+      c .before .before .before .c2 .given ∙ turn .before .before .before .before .before .c .given ∙ at .inv .2,
+      walked-step (at .at) (ahead .hasten .result .at) _ (at .y) (at .c) _ _ (at .desk) (ahead .hasten .result .desk) (at .outcome) (at .inv .3) (test .loop-test .taken) goes-on (ahead .hasten .ensures) (e .0) (e .1 .0) (e .1 .1),
     )
 
 same-length-3 : tie.Need-same-length-3 Inv-loop μ-loop
-same-length-3 c = c .before .loop .inv .2
+same-length-3 c = c .before .loop .inv .1
 
 same-length-4 : tie.Need-same-length-4 Inv-loop μ-loop
-same-length-4 c = c .before .loop .inv .3
+same-length-4 c = c .before .loop .inv .2
 
 returns-2 : tie.Need-returns-2 Inv-loop μ-loop
 unfolding taken takenY takenC
 returns-2 c =
     let loop = c .before in
-    let whole = loop .loop .inv .4 ∙ walked-end _ _ _ (c .loop-test .left) in
+    let whole = loop .loop .inv .3 ∙ walked-end _ _ _ (c .loop-test .left) in
     let accepted = none (loop .before) in
     (rw (accepted, whole), (rw (accepted, whole), rw (accepted, whole)))
 
 same-length-5 : tie.Need-same-length-5 Inv-loop μ-loop
-same-length-5 c = c .before .before .before .loop .inv .2
+same-length-5 c = c .before .before .before .loop .inv .1
 
 same-length-6 : tie.Need-same-length-6 Inv-loop μ-loop
-same-length-6 c = c .before .before .before .loop .inv .3
+same-length-6 c = c .before .before .before .loop .inv .2
 
 returns-3 : tie.Need-returns-3 Inv-loop μ-loop
 unfolding taken takenY takenC
@@ -122,7 +115,7 @@ returns-3 c =
     let ask = c .before in
     let loop = ask .before .before in
     let stopped = sym (ask .is-nothing .ensures) ∙ not-true (ask .is-nothing .result) (c .if2 .taken) in
-    let whole = loop .loop .inv .4 ∙ walked-stopped _ _ stopped in
+    let whole = loop .loop .inv .3 ∙ walked-stopped _ _ stopped in
     let accepted = none (loop .before) in
     (rw (accepted, whole), (rw (accepted, whole), rw (accepted, whole)))
 
@@ -139,8 +132,7 @@ take-spec =
     returns
     loop-holds
     is-nothing-requires
-    slice-aggregate-rush
-    rush-requires
+    hasten-requires
     shared-slice-read-turn
     turn-requires
     add-at

@@ -7,7 +7,7 @@ use borrow.Author.Needs.{needs}
 use Rattle.bits.specs.Bits.{odd, bits}
 use Rattle.laying.specs.Laying.{laidBy}
 use Rattle.stepper.specs.Step.{run, steps}
-use Rattle.stepper.proofs.Stepping.{steps-word}
+use Rattle.stepper.proofs.Stepping.{arrives, passes, steps-word}
 use Rattle.stepper.proofs.State.take_word.Statement.{statement}
 use Rattle.stepper.proofs.State.take_word.Tie as tie
 
@@ -24,11 +24,14 @@ abbrev μ-loop : tie.MeasureT-loop
 loop-holds : tie.Need-loop-holds Inv-loop μ-loop
 loop-holds c = (search needs, refl, refl, refl)
 
-step-requires : tie.Need-step-requires Inv-loop μ-loop
-step-requires c κs = search needs
+look-requires : tie.Need-look-requires Inv-loop μ-loop
+look-requires c κs = search needs
 
 add-k : tie.Need-add-k Inv-loop μ-loop
 add-k c = search needs
+
+is-quiet-requires : tie.Need-is-quiet-requires Inv-loop μ-loop
+is-quiet-requires c κs = search needs
 
 loop-less : tie.Need-loop-less Inv-loop μ-loop
 loop-less c = search needs
@@ -36,13 +39,36 @@ loop-less c = search needs
 loop-again : tie.Need-loop-again Inv-loop μ-loop
 unfolding odd
 loop-again c =
-    let stepped = c .before .before .before .before in
-    let test = stepped .before .before .before in
+    let look = c .before .before .before .look in
+    let test = c .before .before .before .before in
+    let at = test .before .loop in (
+      search needs,
+      at .inv .1,
+      at .inv .2,
+      at .inv .3
+          ∙ steps-word laidBy _ _ (at .k) (at .w) (run (at .s) (at .y) (at .c)) (test .loop-test .taken)
+          (passes _ _ _ (at .s) (at .y) (at .c) (look .ensures) (sym (c .before .before .is-quiet .ensures) ∙ c .before .if1 .taken)),
+    )
+
+arrive-requires : tie.Need-arrive-requires Inv-loop μ-loop
+arrive-requires c κs = search needs
+
+loop-less-2 : tie.Need-loop-less-2 Inv-loop μ-loop
+loop-less-2 c = search needs
+
+loop-again-2 : tie.Need-loop-again-2 Inv-loop μ-loop
+unfolding odd
+loop-again-2 c =
+    let arrive = c .before .before .before .before .arrive in
+    let look = c .before .before .before .before .before .before .before .before .before .look in
+    let test = c .before .before .before .before .before .before .before .before .before .before in
     let at = test .before .loop in (
       search needs,
       search needs,
       search needs,
-      at .inv .3 ∙ steps-word laidBy _ _ (at .k) (at .w) (run (at .s) (at .y) (at .c)) (test .loop-test .taken) (stepped .step .ensures),
+      at .inv .3
+          ∙ steps-word laidBy _ _ (at .k) (at .w) (run (at .s) (at .y) (at .c)) (test .loop-test .taken)
+          (arrives _ _ _ (at .s) (at .y) (at .c) (look .ensures) (arrive .ensures)),
     )
 
 same-length : tie.Need-same-length Inv-loop μ-loop
@@ -62,10 +88,14 @@ take-word-spec =
     Inv-loop
     μ-loop
     loop-holds
-    step-requires
+    look-requires
     add-k
+    is-quiet-requires
     loop-less
     loop-again
+    arrive-requires
+    loop-less-2
+    loop-again-2
     same-length
     same-length-2
     returns)

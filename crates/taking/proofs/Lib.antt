@@ -1,0 +1,9 @@
+pub mod Sliding
+pub mod Quiet
+pub mod Pairs
+pub mod Straddling
+pub mod Words
+pub mod Dealing
+pub mod Gaps
+pub mod Gone
+pub mod Blocks

@@ -1,0 +1,2 @@
+pub mod Hurry
+pub mod Deal

@@ -19,7 +19,7 @@ pub mod frames;
 mod gate_coverage;
 mod lists;
 pub mod loads;
-mod long_sections;
+pub mod long_sections;
 mod modules;
 mod packet_requests;
 mod picture;

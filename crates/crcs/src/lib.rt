@@ -12,6 +12,7 @@ use crc::sheet::STEPS;
 // no word waits for one that was made just before: many are folded at once.
 const BACK: usize = 304;
 
+// So many are taken out before the last 304 are moved down.
 const BLOCK: usize = 512;
 
 // The registers of the channels Y and C.
@@ -83,7 +84,7 @@ fn block(left: usize) -> usize
     BLOCK
 }
 
-// Folds words into a tail of zeros, from which the register becomes the same. Words in front of which zeros stand leave it the same too.
+// Folds words into a tail of zeros, after which the register is the same. Zeros in front change nothing, so fewer words stand at the tail's end.
 fn fold(words: &[u16], tail: &mut [u16; 304])
     requires { ⌜ now tail ≡ replicate 304 0 ⌝ }
     ensures { λ _. ⌜ (length (now (tail .exit)) ≡ 304) × (crcWords crcStart (now (tail .exit)) ≡ crcWords crcStart (now (words .entry))) ⌝ }

@@ -11,7 +11,7 @@ use Rattle.reader.specs.declared.Piece.the-variants.{More, Chosen, Word, Refuse
 use Rattle.reader.specs.declared.Read.{Read}
 use Rattle.reader.specs.declared.Reader.{Reader}
 use Rattle.reader.specs.Reader.{readOf}
-use Rattle.jobs.specs.Desk.{desk, nothing, isMore, Standing, standing, Walk, walk, walked, Ahead, AheadAlone}
+use Rattle.jobs.specs.Desk.{desk, nothing, isMore, Standing, standing, walk, walked, Ahead, AheadAlone}
 use Rattle.jobs.proofs.Walking.{walkBy, by-read, walked-byte}
 
 pub ahead-none : (bs : List ℕ) (x : Standing) (at : ℕ) → at < length bs → Ahead bs x at x at

@@ -2,7 +2,7 @@
 
 use super::desks::{self, buffers, lent, shorten, Lent};
 use super::files::{short_file, tag};
-use super::long_sections::{across, marked, CODE, RUN};
+use super::long_sections::{across, marked, CODE, FEW, RUN};
 use super::row_requests::both;
 use super::{list, lists, request, signals, streams, Generator, Request};
 use crate::cable::SYNC_BITS;
@@ -139,7 +139,7 @@ fn few_from(random: &mut Random, first: usize) -> Vec<u16> {
 
 /// A section of about a run of words or two, a take that ends about where they do, and perhaps a bad word or a cut there.
 fn about_a_run(random: &mut Random) -> (Vec<u8>, Vec<u16>) {
-    let end = random.pick(&[RUN, RUN, RUN, 2 * RUN]);
+    let end = random.pick(&[FEW, RUN, RUN, 2 * RUN]);
     let count = end + random.place(6) - 2;
     let last = count * WORD_BITS - random.pick(&[SYNC_BITS, CODE, 300]);
     let before = random.place(CODE);

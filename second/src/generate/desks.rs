@@ -1,7 +1,7 @@
 //! How far desks have read, the sessions that they have, and what they are lent.
 
 use super::files::{short_file, tag};
-use super::long_sections::RUN;
+use super::long_sections::length;
 use super::session_requests::{any_feed, Feed};
 use super::{code_feeds, lists, sessions, signals};
 use crate::desk::{Desk, Reader, Stage, STAGES};
@@ -132,10 +132,11 @@ fn feed_of_a_job(random: &mut Random) -> Feed {
 
 /// About as many as a run takes, by pairs before them that are all the same.
 fn lengthen(random: &mut Random, words: &mut Vec<u16>) {
-    let count = RUN - 1 + random.place(5);
-    let more = count.saturating_sub(words.len());
+    let (run, more) = length(random, 5);
+    let count = run - 1 + more;
+    let missing = count.saturating_sub(words.len());
     let pair = signals::pair(random);
-    let pairs = pair.into_iter().rev().cycle().take(more);
+    let pairs = pair.into_iter().rev().cycle().take(missing);
     words.splice(0..0, pairs);
 }
 

@@ -4,7 +4,7 @@
 use super::alignments;
 use super::camera::Recording;
 use super::files::sender::Sender;
-use super::long_sections::{across, marked, CODE, READ, RUN};
+use super::long_sections::{across, marked, CODE, FEW, READ, RUN};
 use super::signals::row_bits;
 use super::streams::rows_of;
 use crate::cable::SYNC_BITS;
@@ -110,10 +110,11 @@ fn about(middle: usize, few: usize) -> impl Iterator<Item = usize> {
     middle - few..=middle + few
 }
 
-/// All plans: of none or few words, about one run and two, about one read and two.
+/// All plans: of none or few words, about a short run, a run and two, about one read and two.
 fn plans() -> Vec<Plan> {
     let few = (0..10).map(Plan::of);
-    let runs = about(RUN, 3).chain(about(2 * RUN, 2)).map(Plan::of);
+    let lengths = about(FEW, 3).chain(about(RUN, 3));
+    let runs = lengths.chain(about(2 * RUN, 2)).map(Plan::of);
     let reads = about(READ, 5).chain(about(2 * READ, 1)).map(Plan::to);
     let jobs_across = [4, 8, 9, 13, 15, 17].map(|bytes| Plan::to(READ - bytes));
     let whole: Vec<Plan> = few.chain(runs).chain(reads).chain(jobs_across).collect();
@@ -157,8 +158,8 @@ fn bad_in_few() -> Vec<Plan> {
 
 /// The first, the last and the last but one of a run and of the section.
 fn bad_about_runs() -> Vec<Plan> {
-    let lengths = about(RUN, 2).chain([2 * RUN, 2 * RUN + 1, 2 * RUN + 2]);
-    let all = lengths.flat_map(|words| {
+    let lengths = about(FEW, 2).chain(about(RUN, 2));
+    let all = lengths.chain(2 * RUN..=2 * RUN + 2).flat_map(|words| {
         let ends = [words - 2, words - 1, 2 * RUN - 1, 2 * RUN];
         let places = [&[0, 1, RUN - 2, RUN - 1, RUN, RUN + 1], &ends[..]].concat();
         bad_at(Plan::of(words), &places)
@@ -191,7 +192,7 @@ fn cut_at(plan: Plan, ends: impl Iterator<Item = usize>) -> Vec<Plan> {
 
 /// Also where a word above 3FF stands in what is cut: it was met before, or it was not.
 fn cut_about_runs() -> Vec<Plan> {
-    let plans = [RUN, RUN + 1, RUN + 2, 2 * RUN + 1].map(Plan::of);
+    let plans = [FEW + 1, RUN, RUN + 1, RUN + 2, 2 * RUN + 1].map(Plan::of);
     let cut = plans.into_iter().flat_map(|plan| {
         let last = 2 * plan.words - 4..2 * plan.words;
         cut_at(plan, about(2 * RUN, 3).chain(last))

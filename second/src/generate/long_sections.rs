@@ -2,11 +2,22 @@
 
 use super::signals::{code_bits, overlay, pair_bits, scrambled_words, PAIR_BITS};
 use crate::layout::BLANKING;
+use crate::random::Random;
 use crate::timing::xyz;
 use crate::words::{words_of, WORD_BITS};
 
 /// So many words of a section may be taken at once.
-pub const RUN: usize = 4096;
+pub const RUN: usize = 1024;
+/// Where no more than so few may be, they may be taken by a way of their own.
+pub const FEW: usize = 256;
+/// The lengths about which something may change.
+pub const LENGTHS: [usize; 2] = [FEW, RUN];
+
+/// One of them, mostly the longer, and a number below a few.
+pub fn length(random: &mut Random, few: usize) -> (usize, usize) {
+    let place = random.place(4 * few);
+    (LENGTHS[usize::from(place >= few)], place % few)
+}
 /// So many bytes of a file may be read at once.
 pub const READ: usize = 65_536;
 

@@ -201,11 +201,11 @@ fn assert_seen(seen: &Seen, signs: &[&str], times: u32) {
     }
 }
 
-/// Runs of 4,096 words, and what a take is lent, that end one, two and three words before the section does.
+/// Runs of 1,024 words, and what a take is lent, that end one, two and three words before the section does.
 const RUNS: [&str; 9] = [
-    "run of 4096, 1 left",
-    "run of 4096, 2 left",
-    "run of 4096, 3 left",
+    "run of 1024, 1 left",
+    "run of 1024, 2 left",
+    "run of 1024, 3 left",
     "lent to 1 left, odd 0",
     "lent to 1 left, odd 1",
     "lent to 2 left, odd 0",
@@ -218,11 +218,18 @@ const SECTIONS: [&str; 9] = [
     "section of 1",
     "section of 2",
     "section of 3",
-    "section of 4094",
-    "section of 4095",
-    "section of 4096",
-    "section of 4097",
-    "section of 4098",
+    "section of 1022",
+    "section of 1023",
+    "section of 1024",
+    "section of 1025",
+    "section of 1026",
+];
+const SHORT_SECTIONS: [&str; 5] = [
+    "section of 254",
+    "section of 255",
+    "section of 256",
+    "section of 257",
+    "section of 258",
 ];
 /// Words above 3FF, by their place in a run, and by how many words of the section are left with them.
 const BAD: [&str; 10] = [
@@ -259,6 +266,7 @@ fn in_fixed_files_all_ends_at_every_place() {
     assert_zeros(&seen.places, 20);
     assert_seen(&seen, &RUNS, 1);
     assert_seen(&seen, &SECTIONS, 1);
+    assert_seen(&seen, &SHORT_SECTIONS, 1);
     assert_seen(&seen, &BAD, 1);
     let reads = ["1 left, Low", "1 left, High", "2 left, Low", "2 left, High"];
     for end in reads {

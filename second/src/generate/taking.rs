@@ -1,6 +1,6 @@
 //! Bench files as a desk may take them: whole words at once, all but a section's last, and the other bytes one by one.
 
-use super::long_sections::{READ, RUN};
+use super::long_sections::{LENGTHS, READ, RUN};
 use super::sessions::begun;
 use super::walk::{Places, Walk};
 use crate::desk::{Piece, Reader, Stage};
@@ -100,7 +100,7 @@ impl Taking {
         let (stage, left) = (self.reader.stage, self.reader.left);
         let (piece, ended) = self.reader.take(byte);
         let count = self.reader.left as usize;
-        let about = count <= 3 || count.abs_diff(RUN) <= 2;
+        let about = count <= 3 || LENGTHS.iter().any(|run| count.abs_diff(*run) <= 2);
         if stage == Stage::WordCount && self.reader.stage != stage && about {
             seen.note(format!("section of {count}"));
         }

@@ -3,6 +3,7 @@
 use super::sessions::{of, FRESH, NO_SIGNAL};
 use super::{vector, Vector};
 use crate::functions::*;
+use crate::generate::long_sections::{FEW, RUN};
 use crate::session::Numbers;
 
 /// "03000000 413137 02000000 0100 00000000"
@@ -172,9 +173,6 @@ fn refused_at_a_desk() -> Vec<Vector> {
     ]
 }
 
-/// So many words may be taken at once.
-const RUN: usize = 4096;
-
 /// Zeros, about as many as may be taken at once: no sync, a word above 3FF, the end of the file.
 fn about_runs() -> Vec<Vector> {
     let file = |count: usize| {
@@ -185,8 +183,8 @@ fn about_runs() -> Vec<Vector> {
     };
     let a17 = done(&A17, 1);
     let mut vectors = Vec::new();
-    for count in RUN - 1..=RUN + 2 {
-        let (file, first) = (file(count), (A17.len() + 2 * RUN - 1) as u32);
+    for count in (FEW - 1..=FEW + 2).chain(RUN - 1..=RUN + 2) {
+        let (file, first) = (file(count), (A17.len() + 2 * count.min(RUN) - 1) as u32);
         let taken = [0, file.len() as u32];
         vectors.push(desk(&[], &file, ENOUGH, &[&taken, &a17, &NOTHING]));
         // Lent by all but the high byte of a run's last word, and the rest.

@@ -1,5 +1,5 @@
 -- skim: the bytes from here, at any desk with the reader as it is now, give what those from the start give with the reader as it was.
-use mathlib.Core.Path.{_≡_, sym, _∙_}
+use mathlib.Core.Path.{sym, _∙_}
 use Prim.Native.Nat.{_-_}
 use native.Mathlib.Omega.{arith}
 use borrow.Author.Tests.{not-false}

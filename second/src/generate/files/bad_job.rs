@@ -1,7 +1,7 @@
 //! A job on its way to be refused: its sections, the counts before them, and where it is cut.
 
 use crate::generate::lists;
-use crate::generate::long_sections::RUN;
+use crate::generate::long_sections::length;
 use crate::job::Job;
 use crate::random::Random;
 use std::ops::Range;
@@ -128,10 +128,11 @@ impl BadJob {
 
     /// So many words as may be taken at once, and a few more; the place of one about that end, or of the last.
     pub fn place_about_a_run(&mut self, random: &mut Random) -> usize {
-        let count = RUN + random.place(4);
+        let (run, more) = length(random, 4);
+        let count = run + more;
         self.job.words.resize(count, 0x155);
         self.counts = self.job.counts();
-        let near = RUN - 3 + random.place(5);
+        let near = run - 3 + random.place(5);
         random.pick(&[near.min(count - 1), count - 2, count - 1])
     }
 

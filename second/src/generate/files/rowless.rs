@@ -3,7 +3,7 @@
 use super::modules::Module;
 use super::Kind;
 use crate::generate::camera::Recording;
-use crate::generate::long_sections::{across, marked, CODE, RUN};
+use crate::generate::long_sections::{across, length, marked, CODE};
 use crate::generate::{lists, signals};
 use crate::random::Random;
 
@@ -47,14 +47,15 @@ fn codes(random: &mut Random, most: u32) -> Vec<u16> {
 
 /// A section of about as many words as may be taken at once, with codes across that end and its own.
 fn about_a_run(random: &mut Random) -> Vec<u16> {
-    let count = RUN - 2 + random.place(6);
+    let (run, more) = length(random, 6);
+    let count = run - 2 + more;
     let codes = [
         random.place(20),
-        across(RUN, random.place(CODE)),
+        across(run, random.place(CODE)),
         across(count, random.place(CODE)),
     ];
-    let more = random.between(1, 2) as usize;
-    marked(count, &codes[..=more])
+    let last = random.between(1, 2) as usize;
+    marked(count, &codes[..=last])
 }
 
 fn recorded(bits: &[bool]) -> Vec<u16> {

@@ -1,8 +1,8 @@
 -- hasten: what is skimmed, and then words, few or many, or none.
-use native.Mathlib.Omega.{arith}
-use lib.ListN.{length-replicate}
 use mathlib.Core.Path.{sym}
 use Prim.Native.Nat.{ℕ}
+use native.Mathlib.Omega.{arith}
+use lib.ListN.{length-replicate}
 use borrow.Author.Needs.{needs}
 use Rattle.jobs.specs.Desk.{standing, Ahead}
 use Rattle.jobs.proofs.Skimming.{ahead-then}

@@ -9,7 +9,7 @@ use lib.ListN.{length, take, drop, getD, set, take-append-drop, length-take, len
 use lib.Seq.{take-suc, drop-cons}
 use lib.Pow.{pow-pos, pow-add, shr-shr, split}
 use borrow.Author.Tests.{lt-ltb}
-use Rattle.bits.specs.Bits.{bits, number}
+use Rattle.bits.specs.Bits.{number}
 use Rattle.bits.proofs.Bits.{number-mod}
 use Rattle.align.specs.Search.{slid}
 use Rattle.recogniser.specs.Sight.{cWord, yWord}

@@ -1,9 +1,9 @@
 -- has_gap: where none was found so far, of no two neighbours so far both are zeros.
-use mathlib.Core.Path.{_≡_, refl, sym, _∙_}
-use mathlib.Core.Bool.{Bool, true, false}
+use mathlib.Core.Path.{_≡_}
+use mathlib.Core.Bool.{false}
 use Prim.Native.Nat.{ℕ, _+_, _-_, _≤_, _<_}
 use native.Mathlib.Omega.{arith}
-use lib.ListN.{length, getD}
+use lib.ListN.{getD}
 use borrow.Author.Needs.{needs}
 use Rattle.taking.proofs.Gaps.{gap-turn}
 use Rattle.taking.proofs.has_gap.Statement.{statement}

@@ -1,7 +1,6 @@
 -- has_room: all tests hold where it answers true.
 use native.Mathlib.Omega.{arith}
 use borrow.Author.Tests.{leb-true}
-use borrow.Author.Needs.{needs}
 use Rattle.bits.proofs.Choice.{false-not-true}
 use Rattle.taking.proofs.has_room.Statement.{statement}
 use Rattle.taking.proofs.has_room.Tie as tie

@@ -1,5 +1,4 @@
 -- hurry: where it stays, all words are left; else the promise of its pairs, of a state that sees this.
-use mathlib.Core.Path.{_≡_, refl}
 use native.Mathlib.Omega.{arith}
 use borrow.Author.Tests.{not-false}
 use borrow.Author.Needs.{needs}

@@ -1,5 +1,4 @@
 -- is_free: both tests hold where it answers true.
-use native.Mathlib.Omega.{arith}
 use borrow.Author.Tests.{ltb-true}
 use borrow.Author.Needs.{needs}
 use Rattle.bits.proofs.Choice.{false-not-true}

@@ -1,9 +1,6 @@
 -- is_nowhere: both tests hold where it answers true.
 use mathlib.Core.Path.{ap₂}
-use Prim.Native.Nat.{ℕ}
-use native.Mathlib.Omega.{arith}
 use borrow.Author.Tests.{eqb-true}
-use borrow.Author.Needs.{needs}
 use Rattle.bits.proofs.Choice.{false-not-true}
 use Rattle.recogniser.specs.Event.{place}
 use Rattle.taking.proofs.is_nowhere.Statement.{statement}

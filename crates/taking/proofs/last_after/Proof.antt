@@ -1,8 +1,7 @@
 -- last_after: what all pairs leave, or the last three of them, of which that is left.
-use mathlib.Core.Path.{_≡_, refl, sym, ap, _∙_}
-use Prim.Native.Nat.{ℕ, _+_, _-_, _*_, _≤_}
+use mathlib.Core.Path.{_≡_, sym, ap, _∙_}
+use Prim.Native.Nat.{_+_, _-_, _*_, _≤_}
 use native.Mathlib.Omega.{arith}
-use lib.ListN.{length}
 use borrow.Author.Needs.{needs}
 use Rattle.taking.specs.Hurry.{lastAfter}
 use Rattle.taking.proofs.Words.{last-none, last-turn, last-ended}

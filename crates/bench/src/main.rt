@@ -1,10 +1,10 @@
 // Reads a bench file on standard input and prints a line per job. Proved safe, no more: what it prints is the library's.
-use jobs::Desk;
-use jobs::Kind;
-use jobs::Outcome;
+use desk::Desk;
+use desk::Kind;
+use desk::Outcome;
+use label::Label;
 use libc::STDIN_FILENO;
 use libc::STDOUT_FILENO;
-use line::Line;
 ghost use Prim.Native.Nat.{_≤_};
 ghost use lib.ListN.{length};
 
@@ -44,7 +44,7 @@ fn write_first(bytes: &[u8], count: usize) -> bool
 }
 
 // Copies a line to a place that has its room: at most 4,000 of the 4,096 bytes stand before it.
-fn put(line: Line, out: &mut [u8; OUTPUT], at: usize)
+fn put(line: Label, out: &mut [u8; OUTPUT], at: usize)
     requires { ⌜ (line .size ≤ 96) × (at ≤ 4000) ⌝ }
 {
     let bytes = line.bytes;
@@ -61,7 +61,7 @@ fn lay(outcome: Outcome, out: &mut [u8; OUTPUT], laid: usize) -> Laid
     requires { ⌜ laid ≤ 4000 ⌝ }
     ensures { λ r. ⌜ r .bytes ≤ 4000 ⌝ }
 {
-    let line = line::line_of(outcome);
+    let line = label::label_of(outcome);
     let end = laid + line.size;
     put(line, out, laid);
     if end <= OUTPUT - LINE {

@@ -1,8 +1,8 @@
 -- Demand 1.
-use Rattle.files.proofs.NeverRefused.{never-refused}
-use Rattle.files.proofs.Pieces.{served-alike, pieces-served}
-use Rattle.files.proofs.Lines.{bench-prints}
-use Rattle.files.proofs.Append.{job-alone, refused-alone}
+use Rattle.law_file.proofs.NeverRefused.{never-refused}
+use Rattle.law_file.proofs.Pieces.{served-alike, pieces-served}
+use Rattle.law_file.proofs.Lines.{bench-prints}
+use Rattle.law_file.proofs.Append.{job-alone, refused-alone}
 use Rattle.demands.specs.Demands.{DemandOne}
 use Rattle.demands.proofs.EachCall.{each-call}
 use Rattle.demands.proofs.EachOutcome.{each-outcome}

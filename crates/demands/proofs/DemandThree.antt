@@ -1,6 +1,6 @@
 -- Demand 3.
-use Rattle.burst.proofs.Flagged.{burst-flagged}
-use Rattle.struck.proofs.Fails.{struck-fails}
+use Rattle.law_burst.proofs.Flagged.{burst-flagged}
+use Rattle.law_struck.proofs.Fails.{struck-fails}
 use Rattle.demands.specs.Demands.{DemandThree}
 use Rattle.demands.proofs.RowsStruck.{rows-struck}
 

@@ -3,9 +3,9 @@ use mathlib.Core.Path.{ap, _∙_}
 use Rattle.cable.proofs.Words.{unscramble-from-eleventh}
 use Rattle.timing.specs.Xyz.{readXyz}
 use Rattle.timing.proofs.Codes.{xyz-read-of-build, xyz-build-of-read}
-use Rattle.clean.proofs.Clean.{clean-passes}
-use Rattle.clean.proofs.Short.{clean-passes-short}
-use Rattle.clean.proofs.Window.{window-passes}
+use Rattle.law_clean.proofs.Clean.{clean-passes}
+use Rattle.law_clean.proofs.Short.{clean-passes-short}
+use Rattle.law_clean.proofs.Window.{window-passes}
 use Rattle.demands.specs.Demands.{FromTheEleventh, XyzReadBack, DemandTwo}
 use Rattle.demands.proofs.Numbers.{numbers}
 use Rattle.demands.proofs.FirstSync.{first-sync}

@@ -26,15 +26,15 @@ use Rattle.plan.specs.Refusal.{rowRefusal}
 use Rattle.plan.proofs.Plans.{planOf-refusal}
 use Rattle.packet.specs.Build as Packet
 use Rattle.packet.proofs.Refusals.{made-fit}
-use Rattle.packets.specs.Find.{findOf}
-use Rattle.packets.specs.Extract.{channelOf, packetsIn, extractRefusal, extractedFor, extracted}
+use Rattle.finding.specs.Find.{findOf}
+use Rattle.finding.specs.Extract.{channelOf, packetsIn, extractRefusal, extractedFor, extracted}
 use Rattle.row.specs.Row.{carryAfter, judged, checkRefusal, checkedBy, checked}
 use Rattle.repair.specs.Answer.{correctRefusal, correctedFor, correctedY, correctedC, corrected}
 use Rattle.compose.specs.Compose.{yStream, cStream, buildRefusal, builtFor}
 use Rattle.session.specs.Session.{beginRefusal, begunBy, begun, feedRefusal, fedRun, fedBy, fed, fedY, fedC, endRefusal, endedBy, ended}
-use Rattle.module.specs.Runs.{bench}
+use Rattle.law_module.specs.Runs.{bench}
 use Rattle.reader.specs.Reader.{readOf}
-use Rattle.jobs.specs.Desk as Desk
+use Rattle.desk.specs.Desk as Desk
 use Rattle.rowrefusals.proofs.Numbers.{numbered, row-number, check-number, correct-number, extract-number, build-number}
 use Rattle.filerefusals.proofs.Taking.{takeRefusal-by}
 use Rattle.demands.specs.Demands.{Test, firstFailed, Answers, Keeps, EachCall}

@@ -6,12 +6,12 @@ use Prim.Native.Nat.{ℕ, zero, suc}
 use lib.ListN.{length}
 use Rattle.parts.specs.Parts.{any}
 use Rattle.parts.proofs.Comparing.{any-of-append}
-use Rattle.jobs.specs.declared.Job.{Job}
-use Rattle.jobs.specs.declared.Kind.the-variants.{BadFile}
-use Rattle.jobs.specs.declared.Outcome.{Outcome}
-use Rattle.jobs.specs.Desk.{done}
-use Rattle.files.specs.File.{Got, got, wrong, then, byteRead, countRead, tagBytesRead, tagRead, optionsOf, optionsRead, wordsRead, jobRead, Ending, whole, cutShort, refusedBy, Contents, contentsBy, readIn, contentsOf, lastOutcomes, outcomesOf}
-use Rattle.files.proofs.Reading.{Reads, of-got, of-cut, of-wrong, reads-then, reads-if}
+use Rattle.desk.specs.declared.Job.{Job}
+use Rattle.desk.specs.declared.Kind.the-variants.{BadFile}
+use Rattle.desk.specs.declared.Outcome.{Outcome}
+use Rattle.desk.specs.Desk.{done}
+use Rattle.law_file.specs.File.{Got, got, wrong, then, byteRead, countRead, tagBytesRead, tagRead, optionsOf, optionsRead, wordsRead, jobRead, Ending, whole, cutShort, refusedBy, Contents, contentsBy, readIn, contentsOf, lastOutcomes, outcomesOf}
+use Rattle.law_file.proofs.Reading.{Reads, of-got, of-cut, of-wrong, reads-then, reads-if}
 use Rattle.demands.specs.Demands.{outcomeOk, EachOutcome}
 
 -- ---- a reading that is wrong with such a number, if it is wrong

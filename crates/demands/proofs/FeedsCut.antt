@@ -1,6 +1,6 @@
 -- Words that are taken in one feed may be cut into feeds anywhere.
-use Rattle.module.proofs.Refusals.{feed-taken}
-use Rattle.module.proofs.Cuts.{fedAll-of-pieces}
+use Rattle.law_module.proofs.Refusals.{feed-taken}
+use Rattle.law_module.proofs.Cuts.{fedAll-of-pieces}
 use Rattle.parts.specs.Parts.{endToEnd}
 use Rattle.demands.specs.Demands.{FeedsCut}
 

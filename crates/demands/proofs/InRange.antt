@@ -6,14 +6,14 @@ use Prim.Native.Nat.{ℕ, zero, suc}
 use Rattle.bits.specs.Choice.{if}
 use Rattle.session.specs.declared.Session.{Session}
 use Rattle.session.specs.Session.{closed, inRange}
-use Rattle.module.proofs.Ranges.{closed-in-range, begun-in-range, fed-in-range, ended-in-range}
+use Rattle.law_module.proofs.Ranges.{closed-in-range, begun-in-range, fed-in-range, ended-in-range}
 use Rattle.reader.specs.declared.Read.{Read}
 use Rattle.reader.specs.declared.Reader.{Reader}
 use Rattle.reader.specs.declared.Piece.{Piece}
 use Rattle.reader.specs.declared.Piece.the-variants.{More, Chosen, Word, Refused}
 use Rattle.reader.specs.Reader.{readOf}
-use Rattle.jobs.specs.declared.Desk.{Desk}
-use Rattle.jobs.specs.Desk.{nothing, isNothing, sessionAfter, turnBy, turned, standing, Walk, walk, walkedOne, walked, walkOf, takeRefusal, takenBy, taken}
+use Rattle.desk.specs.declared.Desk.{Desk}
+use Rattle.desk.specs.Desk.{nothing, isNothing, sessionAfter, turnBy, turned, standing, Walk, walk, walkedOne, walked, walkOf, takeRefusal, takenBy, taken}
 use Rattle.demands.specs.Demands.{InRange}
 
 -- ---- a desk's, byte after byte

@@ -1,5 +1,5 @@
 -- A module without words has no signal, whatever was before it.
-use Rattle.module.specs.Runs.{fedAll}
+use Rattle.law_module.specs.Runs.{fedAll}
 use Rattle.sessionuses.proofs.Alone.{ended-of-no-words}
 use Rattle.demands.specs.Demands.{NothingLeft}
 

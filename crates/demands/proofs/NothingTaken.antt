@@ -5,12 +5,12 @@ use Prim.Native.Nat.{ℕ}
 use native.Mathlib.Omega.{arith}
 use Rattle.raster.specs.Table.{totalOf}
 use Rattle.session.specs.Session.{feedRefusal, ended}
-use Rattle.module.specs.Runs.{Bench, fedOnce, fedAll, started}
-use Rattle.module.proofs.Refusals.{feed-taken}
-use Rattle.module.proofs.Between.{begun-opens}
-use Rattle.module.proofs.Feeds.{ReadyOn}
-use Rattle.module.proofs.Own.{total-of-meant}
-use Rattle.module.proofs.Verdicts.{module-of-no-words}
+use Rattle.law_module.specs.Runs.{Bench, fedOnce, fedAll, started}
+use Rattle.law_module.proofs.Refusals.{feed-taken}
+use Rattle.law_module.proofs.Between.{begun-opens}
+use Rattle.law_module.proofs.Feeds.{ReadyOn}
+use Rattle.law_module.proofs.Own.{total-of-meant}
+use Rattle.law_module.proofs.Verdicts.{module-of-no-words}
 use Rattle.demands.specs.Demands.{endOf, firstFailed, NothingLeft, NothingTaken}
 use Rattle.demands.proofs.EachCall.{each-call}
 use Rattle.demands.proofs.NothingLeft.{nothing-left}

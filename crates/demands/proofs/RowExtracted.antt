@@ -20,17 +20,17 @@ use Rattle.plan.specs.Plan.{planOf}
 use Rattle.plan.specs.Refusal.{rowRefusal}
 use Rattle.plan.proofs.Plans.{planOf-fits}
 use Rattle.plan.proofs.Rows.{RowFits}
-use Rattle.packets.specs.declared.Channel.{Channel}
-use Rattle.packets.specs.declared.Channel.the-variants.{Y, C}
-use Rattle.packets.specs.Extract.{channelOf, packetsIn, extractRefusal, extracted}
-use Rattle.packets.proofs.Extracting.{packets-of-laid, packets-of-words, packets-of-both}
+use Rattle.finding.specs.declared.Channel.{Channel}
+use Rattle.finding.specs.declared.Channel.the-variants.{Y, C}
+use Rattle.finding.specs.Extract.{channelOf, packetsIn, extractRefusal, extracted}
+use Rattle.finding.proofs.Extracting.{packets-of-laid, packets-of-words, packets-of-both}
 use Rattle.stream.specs.Words.{yBlank, cBlank}
 use Rattle.row.specs.declared.Carry.{Carry}
 use Rattle.row.specs.Before.{carried}
 use Rattle.compose.specs.Compose.{blankingFor, streamOf, yStream, cStream, buildRefusal}
-use Rattle.rowlaws.specs.Lawful.{allRight}
-use Rattle.rowlaws.proofs.BuiltParts.{blankingOf-streamOf, activeOf-streamOf}
-use Rattle.rowlaws.proofs.Calm.{whole-packets, plain-no-zero}
+use Rattle.law_row.specs.Lawful.{allRight}
+use Rattle.law_row.proofs.BuiltParts.{blankingOf-streamOf, activeOf-streamOf}
+use Rattle.law_row.proofs.Calm.{whole-packets, plain-no-zero}
 use Rattle.lineuses.specs.Laid.{LawfulLine}
 use Rattle.lineuses.specs.Struck.{total}
 use Rattle.lineuses.proofs.Checked.{row-taken}

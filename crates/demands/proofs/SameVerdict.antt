@@ -2,7 +2,7 @@
 use mathlib.Core.Path.{sym, ap, _∙_}
 use mathlib.Core.List.{List}
 use Prim.Native.Nat.{ℕ}
-use Rattle.module.specs.Module.{moduleOf}
+use Rattle.law_module.specs.Module.{moduleOf}
 use Rattle.demands.specs.Demands.{endOf, VerdictOwn, SameVerdict}
 use Rattle.demands.proofs.VerdictOwn.{verdict-own}
 

@@ -3,11 +3,11 @@ use mathlib.Core.Path.{_≡_, refl, ap, _∙_}
 use mathlib.Core.List.{List}
 use Prim.Native.Nat.{ℕ}
 use Rattle.session.specs.Session.{closed, ended}
-use Rattle.module.specs.Module.{moduleOf}
-use Rattle.module.specs.Runs.{Bench, bench, fedAll, started}
-use Rattle.module.proofs.Ranges.{closed-in-range}
-use Rattle.module.proofs.Between.{begun-by-raster-alone}
-use Rattle.module.proofs.Own.{answer-is-the-modules-own, taken-by-words}
+use Rattle.law_module.specs.Module.{moduleOf}
+use Rattle.law_module.specs.Runs.{Bench, bench, fedAll, started}
+use Rattle.law_module.proofs.Ranges.{closed-in-range}
+use Rattle.law_module.proofs.Between.{begun-by-raster-alone}
+use Rattle.law_module.proofs.Own.{answer-is-the-modules-own, taken-by-words}
 use Rattle.demands.specs.Demands.{endOf, TakenAlone}
 
 pub taken-alone : TakenAlone

@@ -5,11 +5,11 @@ use Prim.Native.Nat.{ℕ}
 use native.Mathlib.Omega.{arith}
 use Rattle.raster.specs.Table.{totalOf}
 use Rattle.session.specs.Session.{ended}
-use Rattle.module.specs.Module.{moduleOf}
-use Rattle.module.specs.Runs.{Bench, fedAll, started}
-use Rattle.module.proofs.Refusals.{begin-taken, feed-taken}
-use Rattle.module.proofs.Between.{begun-opens}
-use Rattle.module.proofs.Own.{total-of-meant}
+use Rattle.law_module.specs.Module.{moduleOf}
+use Rattle.law_module.specs.Runs.{Bench, fedAll, started}
+use Rattle.law_module.proofs.Refusals.{begin-taken, feed-taken}
+use Rattle.law_module.proofs.Between.{begun-opens}
+use Rattle.law_module.proofs.Own.{total-of-meant}
 use Rattle.parts.specs.Parts.{endToEnd}
 use Rattle.demands.specs.Demands.{endOf, FeedsCut, sound, TakenAlone, VerdictOwn}
 use Rattle.demands.proofs.FeedsCut.{feeds-cut}

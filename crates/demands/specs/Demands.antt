@@ -26,9 +26,9 @@ use Rattle.plan.specs.Plan.{planOf}
 use Rattle.plan.specs.Refusal.{rowRefusal}
 use Rattle.packet.specs.Build as Packet
 use Rattle.packet.specs.Build.{buildable}
-use Rattle.packets.specs.declared.Channel.{Channel}
-use Rattle.packets.specs.Find.{findOf}
-use Rattle.packets.specs.Extract.{channelOf, packetsIn, extractRefusal, extracted}
+use Rattle.finding.specs.declared.Channel.{Channel}
+use Rattle.finding.specs.Find.{findOf}
+use Rattle.finding.specs.Extract.{channelOf, packetsIn, extractRefusal, extracted}
 use Rattle.stream.specs.Words.{yBlank, cBlank}
 use Rattle.row.specs.declared.Carry.{Carry}
 use Rattle.row.specs.Before.{carryOk}
@@ -36,28 +36,28 @@ use Rattle.row.specs.Row.{flagsOf, checked}
 use Rattle.repair.specs.Repair.{wipedIf}
 use Rattle.repair.specs.Answer.{correctRefusal, correctedY, correctedC, corrected}
 use Rattle.compose.specs.Compose.{yStream, cStream, roomOk, buildRefusal, builtFor}
-use Rattle.rowlaws.specs.Lawful.{rightPacket}
-use Rattle.burst.specs.Stretch.{crcFlagged, BurstFlagged}
+use Rattle.law_row.specs.Lawful.{rightPacket}
+use Rattle.law_burst.specs.Stretch.{crcFlagged, BurstFlagged}
 use Rattle.tally.specs.declared.Verdict.the-variants.{NoSignal}
 use Rattle.tally.specs.Tally.{noCounts}
 use Rattle.session.specs.declared.Session.{Session}
 use Rattle.session.specs.declared.Ended.{Ended}
 use Rattle.session.specs.Session.{closed, inRange, beginRefusal, begun, feedRefusal, fed, ended}
-use Rattle.module.specs.Module.{Answer, moduleOf}
-use Rattle.module.specs.Runs.{Bench, fedOnce, fedAll, started, answered, left}
-use Rattle.clean.specs.Signal.{CleanPasses, CleanPassesShort, WindowPasses}
-use Rattle.struck.specs.Struck.{StruckFails}
+use Rattle.law_module.specs.Module.{Answer, moduleOf}
+use Rattle.law_module.specs.Runs.{Bench, fedOnce, fedAll, started, answered, left}
+use Rattle.law_clean.specs.Signal.{CleanPasses, CleanPassesShort, WindowPasses}
+use Rattle.law_struck.specs.Struck.{StruckFails}
 use Rattle.reader.specs.declared.Stage.{Stage}
 use Rattle.reader.specs.declared.Stage.the-variants.{TagCount, TagBytes, OptionsCount, RasterByte, WipeByte, WordCount, LowByte, HighByte, Stopped}
 use Rattle.reader.specs.declared.Reader.{Reader}
 use Rattle.reader.specs.Reader.{tagSizeOk, printable, optionsSizeOk, wipeOk, wordOf, wordOk, readOf, isCut}
-use Rattle.jobs.specs.declared.Kind.{Kind}
-use Rattle.jobs.specs.declared.Kind.the-variants.{Nothing, Done, BadFile}
-use Rattle.jobs.specs.declared.Desk.{Desk}
-use Rattle.jobs.specs.Desk as Desk
-use Rattle.files.specs.File.{outcomesOf}
-use Rattle.files.specs.Serving.{afterTake}
-use Rattle.files.specs.Promises.{NeverRefused, ServedAlike, PiecesServed, BenchPrints, JobAlone, RefusedAlone}
+use Rattle.desk.specs.declared.Kind.{Kind}
+use Rattle.desk.specs.declared.Kind.the-variants.{Nothing, Done, BadFile}
+use Rattle.desk.specs.declared.Desk.{Desk}
+use Rattle.desk.specs.Desk as Desk
+use Rattle.law_file.specs.File.{outcomesOf}
+use Rattle.law_file.specs.Serving.{afterTake}
+use Rattle.law_file.specs.Promises.{NeverRefused, ServedAlike, PiecesServed, BenchPrints, JobAlone, RefusedAlone}
 use Rattle.lineuses.specs.Laid.{LawfulLine, PlaceAfter}
 use Rattle.lineuses.specs.Struck.{total, nextChecked, TwoRows, Struck}
 use Rattle.sessionuses.specs.Uses.{Fits}

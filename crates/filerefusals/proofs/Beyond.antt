@@ -13,8 +13,8 @@ use Rattle.sessionrefusals.proofs.Beyond.{Kept, kept-feed}
 use Rattle.reader.specs.declared.Piece.{Piece}
 use Rattle.reader.specs.declared.Piece.the-variants.{More, Chosen, Word, Refused}
 use Rattle.reader.specs.Reader.{readOf}
-use Rattle.jobs.specs.declared.Desk.{Desk}
-use Rattle.jobs.specs.Desk.{nothing, isNothing, longest, yAfter, cAfter, turnedY, turnedC, standing, Walk, walk, walkedOne, walked, walkOf, takeRefusal, takenY, takenC}
+use Rattle.desk.specs.declared.Desk.{Desk}
+use Rattle.desk.specs.Desk.{nothing, isNothing, longest, yAfter, cAfter, turnedY, turnedC, standing, Walk, walk, walkedOne, walked, walkOf, takeRefusal, takenY, takenC}
 
 -- no row is longer
 total-high : (code : ℕ) → totalOf code ≤ longest

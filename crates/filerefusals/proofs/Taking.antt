@@ -9,9 +9,9 @@ use Rattle.bits.specs.Choice.{if}
 use Rattle.parts.specs.Parts.{unlessRefused}
 use Rattle.session.specs.Session.{inRange, endRefusal}
 use Rattle.leafrefusals.proofs.Decided.{two-tests}
-use Rattle.jobs.specs.declared.Desk.{Desk}
-use Rattle.jobs.specs.declared.Taken.{Taken}
-use Rattle.jobs.specs.Desk.{nothing, longest, wordsAt, walkOf, takeRefusal, takenBy, taken, takenY, takenC}
+use Rattle.desk.specs.declared.Desk.{Desk}
+use Rattle.desk.specs.declared.Taken.{Taken}
+use Rattle.desk.specs.Desk.{nothing, longest, wordsAt, walkOf, takeRefusal, takenBy, taken, takenY, takenC}
 use Rattle.filerefusals.specs.Refusals.{ready, roomy}
 use Rattle.filerefusals.proofs.Beyond.{take-beyond}
 

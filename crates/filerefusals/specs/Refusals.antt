@@ -12,8 +12,8 @@ use Rattle.reader.specs.declared.Reader.{Reader}
 use Rattle.reader.specs.declared.Piece.{Piece}
 use Rattle.reader.specs.declared.Piece.the-variants.{More, Chosen, Word, Refused}
 use Rattle.reader.specs.Reader.{counted, tagSizeOk, printable, optionsSizeOk, wipeOk, wordOf, wordOk}
-use Rattle.jobs.specs.declared.Desk.{Desk}
-use Rattle.jobs.specs.Desk.{wordsAt, longest}
+use Rattle.desk.specs.declared.Desk.{Desk}
+use Rattle.desk.specs.Desk.{wordsAt, longest}
 
 -- ---- a byte
 

@@ -1,9 +1,9 @@
 // "Each call does its work or returns one number of the refusal table": each function that reads a bench file and can refuse, called
 // once with whatever it is given. A clause for each condition, where none stands before it in the order of the table; `done` where there
 // is none; and what a refusal leaves.
-use jobs::Desk;
-use jobs::Outcome;
-use jobs::Taken;
+use desk::Desk;
+use desk::Outcome;
+use desk::Taken;
 use reader::Read;
 use reader::Reader;
 ghost use mathlib.Core.Path.{_≡_};
@@ -13,7 +13,7 @@ ghost use lib.ListN.{drop};
 ghost use Rattle.raster.specs.Table.{rasterOk};
 ghost use Rattle.reader.specs.declared.Stage.the-variants.{TagCount, TagBytes, OptionsCount, WipeByte, HighByte};
 ghost use Rattle.reader.specs.Reader.{counted, isCut, optionsSizeOk, printable, refused, tagSizeOk, wipeOk, wordOf, wordOk};
-ghost use Rattle.jobs.specs.Desk.{badFile, longest, nothing};
+ghost use Rattle.desk.specs.Desk.{badFile, longest, nothing};
 ghost use Rattle.filerefusals.specs.Refusals.{lawful, pieceRefusal, ready, roomy};
 
 // A byte, by its stage; a count is there with its fourth byte. What is `refused` has nothing of the job left.

@@ -1,9 +1,9 @@
 // Any two answers that a contract allows are equal, of the functions that read a bench file: each is called twice on equal arguments, and
 // equal answers and equal buffers follow from its contract alone.
-use jobs::Desk;
-use jobs::Outcome;
-use jobs::Taken;
-use line::Line;
+use desk::Desk;
+use desk::Outcome;
+use desk::Taken;
+use label::Label;
 use reader::Read;
 use reader::Reader;
 use section::Run;
@@ -45,8 +45,8 @@ pub struct TwoOutcomes {
 }
 
 pub struct TwoLines {
-    pub first: Line,
-    pub second: Line,
+    pub first: Label,
+    pub second: Label,
 }
 
 pub fn fresh_reader() -> TwoReaders
@@ -114,10 +114,10 @@ pub fn finish(desk: Desk) -> TwoOutcomes
     TwoOutcomes { first, second }
 }
 
-pub fn line_of(outcome: Outcome) -> TwoLines
+pub fn label_of(outcome: Outcome) -> TwoLines
     ensures { λ r. ⌜ r .first ≡ r .second ⌝ }
 {
-    let first = line::line_of(outcome);
-    let second = line::line_of(outcome);
+    let first = label::label_of(outcome);
+    let second = label::label_of(outcome);
     TwoLines { first, second }
 }

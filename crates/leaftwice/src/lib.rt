@@ -5,7 +5,7 @@ use align::Sync;
 use cable::Coded;
 use crc::CrcWords;
 use crc::Ran;
-use crcs::Registers;
+use folding::Registers;
 use raster::Kind;
 use raster::LineFacts;
 use raster::LookedUp;
@@ -145,8 +145,8 @@ pub fn step_words(register: u32, words: &[u16]) -> Numbers
 pub fn step_channels(y: &[u16], c: &[u16]) -> TwoRegisters
     ensures { λ r. ⌜ r .first ≡ r .second ⌝ }
 {
-    let first = crcs::step_channels(y, c);
-    let second = crcs::step_channels(y, c);
+    let first = folding::step_channels(y, c);
+    let second = folding::step_channels(y, c);
     TwoRegisters { first, second }
 }
 

@@ -21,8 +21,8 @@ use Rattle.row.specs.Row.{checked, flagsOf}
 use Rattle.compose.specs.declared.Built.{Built}
 use Rattle.compose.specs.Compose.{buildRefusal, builtFor, cStream, lengthsOk, yStream}
 use Rattle.compose.proofs.Refusal.{Buildable, buildRefusal-ok, lengths-of}
-use Rattle.rowlaws.proofs.BuiltParts.{length-streamOf, registerAfter-streamOf}
-use Rattle.rowlaws.proofs.NoFlag.{built-no-flag}
+use Rattle.law_row.proofs.BuiltParts.{length-streamOf, registerAfter-streamOf}
+use Rattle.law_row.proofs.NoFlag.{built-no-flag}
 use Rattle.lineuses.specs.Laid.{LawfulLine}
 use Rattle.lineuses.proofs.Checked.{row-checked}
 use Rattle.lineuses.proofs.Made.{tens-streamOf}

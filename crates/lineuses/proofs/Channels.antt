@@ -16,7 +16,7 @@ use Rattle.bits.proofs.Words.{tens-drop, words10-cons, words10-head, words10-ta
 use Rattle.cable.specs.Channels.{channelBits, paired}
 use Rattle.cable.specs.Words.{grouped}
 use Rattle.cable.proofs.Channels.{channel-of-words}
-use Rattle.burst.specs.Stretch.{channelWords}
+use Rattle.law_burst.specs.Stretch.{channelWords}
 
 -- ---- a turn of the loop, and its end
 

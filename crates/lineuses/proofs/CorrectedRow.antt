@@ -19,8 +19,8 @@ use Rattle.row.proofs.Rows.{checkRefusal-ok}
 use Rattle.repair.specs.declared.Corrected.{Corrected}
 use Rattle.repair.specs.Repair.{correctedStream, putRight, wipedIf, withCodes, withCrc, withSums}
 use Rattle.repair.specs.Answer.{corrected, correctedC, correctedFor, correctedY, correctRefusal}
-use Rattle.rowlaws.proofs.CorrectedParts.{wipedIf-length, withCodes-length, withSums-length}
-use Rattle.rowlaws.proofs.CorrectedRows.{Right, correction-right}
+use Rattle.law_row.proofs.CorrectedParts.{wipedIf-length, withCodes-length, withSums-length}
+use Rattle.law_row.proofs.CorrectedRows.{Right, correction-right}
 use Rattle.lineuses.proofs.Checked.{row-checked}
 use Rattle.lineuses.proofs.Made.{tens-corrected}
 

@@ -28,10 +28,10 @@ use Rattle.packet.specs.declared.Built.{Built}
 use Rattle.packet.specs.Build.{bodyOf, built, builtFor, buildRefusal, headerWord, packetOf}
 use Rattle.packet.proofs.Packets.{length-packet, packet-did, packet-marked, packet-sdid, packet-size, packet-sum-right}
 use Rattle.packet.proofs.Refusals.{room-of-built}
-use Rattle.packets.specs.Find.{findOf, found, wanted}
-use Rattle.packets.proofs.Finding.{findOf-found, found-of-ancillary, found-of-laid, orElse-first}
-use Rattle.rowlaws.specs.Lawful.{rightPacket}
-use Rattle.rowlaws.proofs.Calm.{right-packet, whole-packets}
+use Rattle.finding.specs.Find.{findOf, found, wanted}
+use Rattle.finding.proofs.Finding.{findOf-found, found-of-ancillary, found-of-laid, orElse-first}
+use Rattle.law_row.specs.Lawful.{rightPacket}
+use Rattle.law_row.proofs.Calm.{right-packet, whole-packets}
 use Rattle.lineuses.specs.Laid.{PlaceAfter}
 use Rattle.lineuses.proofs.Checked.{row-taken}
 use Rattle.lineuses.proofs.Tens.{checksum-ten, tens-laid}

@@ -26,8 +26,8 @@ use Rattle.row.specs.declared.Carry.{Carry}
 use Rattle.row.specs.declared.Checked.{Checked}
 use Rattle.row.specs.Before.{carryOk}
 use Rattle.row.specs.Row.{carryAfter, checked, flagsOf}
-use Rattle.burst.specs.Stretch.{BurstFlagged, channelWords, crcFlagged, flagsIn, received}
-use Rattle.burst.proofs.Flagged.{burst-flagged}
+use Rattle.law_burst.specs.Stretch.{BurstFlagged, channelWords, crcFlagged, flagsIn, received}
+use Rattle.law_burst.proofs.Flagged.{burst-flagged}
 use Rattle.lineuses.specs.Struck.{checkedAfter, firstChecked, nextChecked, Struck, total, TwoRows}
 use Rattle.lineuses.proofs.Channels.{channelWords-after, tens-of-paired}
 use Rattle.lineuses.proofs.Checked.{row-checked}

@@ -8,8 +8,8 @@ use Rattle.bits.specs.Words.{reservedCode}
 use Rattle.parts.specs.Parts.{any, endToEnd, part}
 use Rattle.scan.specs.Scan.{Packet}
 use Rattle.plan.specs.Plan.{planOf}
-use Rattle.packets.specs.Find.{wanted}
-use Rattle.rowlaws.specs.Lawful.{allRight}
+use Rattle.finding.specs.Find.{wanted}
+use Rattle.law_row.specs.Lawful.{allRight}
 
 -- "the words laid in the blanking are whole packets end to end with right checksums, and no active word is a reserved code"
 pub record LawfulLine (yActive cActive yLaid cLaid : List ℕ) (yPackets cPackets : List (List ℕ)) : Type 0 where

@@ -30,7 +30,7 @@ pub fn built_and_found(
     ensures found { λ r. ⌜ (r .refusal ≡ 0 → (packets : List (List ℕ)) → PlaceAfter raster line did sdid (now (user .entry)) (now (y .entry)) at packets → r .found ≡ true) ⌝ }
     ensures refused { λ r. ⌜ ((r .refusal ≡ 0 → ⊥) → (now (packet .exit) ≡ now (packet .entry)) × (now (y .exit) ≡ now (y .entry))) ⌝ }
 {
-    let refusal = packets::find_refusal(raster, line, did, sdid, y, c);
+    let refusal = finding::find_refusal(raster, line, did, sdid, y, c);
     if refusal != 0 {
         return Sought {
             refusal,
@@ -40,7 +40,7 @@ pub fn built_and_found(
     let built = packet::build(did, sdid, user, packet);
     let whole = parts::part(packet, 0, built.words);
     parts::lay(y, at, whole);
-    let part = packets::find(raster, line, did, sdid, y, c);
+    let part = finding::find(raster, line, did, sdid, y, c);
     Sought {
         refusal: built.refusal,
         found: parts::same(part, whole),

@@ -11,7 +11,7 @@ ghost use Rattle.bits.specs.Bits.{wordBits};
 ghost use Rattle.cable.specs.Channels.{paired};
 ghost use Rattle.cable.specs.Words.{codeRefusal, unscrambleWords};
 ghost use Rattle.plan.specs.Plan.{planOf};
-ghost use Rattle.burst.specs.Stretch.{crcFlagged, flagsIn, received};
+ghost use Rattle.law_burst.specs.Stretch.{crcFlagged, flagsIn, received};
 ghost use Rattle.lineuses.specs.Struck.{nextChecked, Struck, TwoRows};
 
 pub struct Rows {

@@ -1,6 +1,6 @@
 // Answers requests, one a line (docs/REQUESTS.md). Proved safe, no more.
-use answers::arg;
 use libc::STDIN_FILENO;
+use probe_answers::arg;
 
 // What a hexadecimal digit stands for.
 fn digit_of(byte: u8) -> u32 {
@@ -29,11 +29,11 @@ fn begin(args: &mut [u32], at: usize) -> usize {
 // Answers the request whose numbers these are.
 fn answer(args: &[u32]) {
     match arg(args, 0) {
-        0x58 | 0x59 | 0x66..=0x6b => channels::answer(args),
-        0x70..=0x73 => sessions::answer(args),
-        0x74..=0x7a => steps::answer(args),
-        0x80..=0x84 => desks::answer(args),
-        _ => rows::answer(args),
+        0x58 | 0x59 | 0x66..=0x6b => probe_channels::answer(args),
+        0x70..=0x73 => probe_sessions::answer(args),
+        0x74..=0x7a => probe_steps::answer(args),
+        0x80..=0x84 => probe_desks::answer(args),
+        _ => probe_rows::answer(args),
     }
 }
 

@@ -94,7 +94,7 @@ fn carry_after(plan: Plan, y: &[u16], c: &[u16]) -> Carry
     ensures { λ r. ⌜ r ≡ carryAfter plan (now (y .entry)) (now (c .entry)) ⌝ }
 {
     let places = plan.places;
-    let registers = crcs::step_channels(
+    let registers = folding::step_channels(
         parts::part(y, places.active, places.count),
         parts::part(c, places.active, places.count),
     );

@@ -17,8 +17,8 @@ use Rattle.plan.specs.Plan.{planOf}
 use Rattle.plan.specs.Refusal.{orRefusal, rowRefusal}
 use Rattle.plan.proofs.Plans.{planOf-fits, planOf-plain}
 use Rattle.stream.proofs.Makeable.{unmakeable-never}
-use Rattle.packets.specs.declared.Channel.{Channel}
-use Rattle.packets.specs.Extract.{channelOf, extractRefusal, packetsIn}
+use Rattle.finding.specs.declared.Channel.{Channel}
+use Rattle.finding.specs.Extract.{channelOf, extractRefusal, packetsIn}
 use Rattle.row.specs.declared.Carry.{Carry}
 use Rattle.row.specs.declared.Carry.the-variants.{Nothing, Registers}
 use Rattle.row.specs.Before.{carryOk}

@@ -13,10 +13,10 @@ use Rattle.packet.specs.declared.Built.{Built}
 use Rattle.packet.specs.Build.{buildable, buildRefusal, built, builtFor, packetOf}
 use Rattle.packet.proofs.Packets.{length-packet}
 use Rattle.packet.proofs.Refusals.{made-fit}
-use Rattle.packets.specs.declared.Channel.{Channel}
-use Rattle.packets.specs.declared.Extracted.{Extracted}
-use Rattle.packets.specs.Find.{findOf}
-use Rattle.packets.specs.Extract.{channelOf, extractRefusal, extracted, extractedFor, packetsIn}
+use Rattle.finding.specs.declared.Channel.{Channel}
+use Rattle.finding.specs.declared.Extracted.{Extracted}
+use Rattle.finding.specs.Find.{findOf}
+use Rattle.finding.specs.Extract.{channelOf, extractRefusal, extracted, extractedFor, packetsIn}
 use Rattle.rowrefusals.specs.Refusals.{Refused, rowsOk, wordsOk}
 use Rattle.rowrefusals.proofs.Numbers.{Clauses, clauses, extract-number, not-eight}
 use Rattle.rowrefusals.proofs.Answers.{answered, beyond, kept}

@@ -26,7 +26,7 @@ use Rattle.repair.specs.Answer.{correctRefusal, corrected, correctedC, correcte
 use Rattle.compose.specs.declared.Built.{Built}
 use Rattle.compose.specs.Compose.{buildRefusal, builtFor, cStream, lengthsOk, roomOk, streamOf, yStream}
 use Rattle.compose.proofs.Refusal.{buildRefusal-ok}
-use Rattle.rowlaws.proofs.BuiltParts.{length-streamOf}
+use Rattle.law_row.proofs.BuiltParts.{length-streamOf}
 use Rattle.rowrefusals.specs.Refusals.{Refused, partsOk, rowsOk, wordsOk}
 use Rattle.rowrefusals.proofs.Numbers.{Clauses, build-number, check-number, clauses, correct-number, line-number, row-number}
 use Rattle.rowrefusals.proofs.Answers.{answered, beyond, kept}

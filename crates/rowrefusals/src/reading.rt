@@ -46,8 +46,8 @@ pub fn find<'a>(raster: u32, line: u32, did: u8, sdid: u8, y: &'a [u16], c: &'a 
     ensures done { λ r. ⌜ (Sound raster line (rowsOk raster (now (y .entry)) (now (c .entry))) (wordsOk (now (y .entry)) (now (c .entry))) → r .refusal ≡ 0) ⌝ }
     ensures empty { λ r. ⌜ (Refused (r .refusal) → r .words ≡ 0) ⌝ }
 {
-    let part = packets::find(raster, line, did, sdid, y, c);
-    let refusal = packets::find_refusal(raster, line, did, sdid, y, c);
+    let part = finding::find(raster, line, did, sdid, y, c);
+    let refusal = finding::find_refusal(raster, line, did, sdid, y, c);
     Sought {
         refusal,
         words: part.len(),

@@ -1,7 +1,7 @@
 // Packets that are built or extracted, rows that are corrected or built: a refused call changes nothing that it was lent, and beyond
 // what a result fills, a buffer keeps what it held.
-use packets::Channel;
-use packets::Extracted;
+use finding::Channel;
+use finding::Extracted;
 use repair::Corrected;
 use row::Carry;
 ghost use mathlib.Core.Path.{_≡_};
@@ -14,7 +14,7 @@ ghost use Rattle.raster.specs.Table.{rasterOk};
 ghost use Rattle.raster.specs.Lines.{lineOk};
 ghost use Rattle.plan.specs.Plan.{planOf};
 ghost use Rattle.packet.specs.Build.{buildable};
-ghost use Rattle.packets.specs.Extract.{channelOf, packetsIn};
+ghost use Rattle.finding.specs.Extract.{channelOf, packetsIn};
 ghost use Rattle.row.specs.declared.Carry.the-variants.{Nothing};
 ghost use Rattle.row.specs.Before.{carryOk};
 ghost use Rattle.compose.specs.Compose.{roomOk};
@@ -53,7 +53,7 @@ pub fn extract(
     ensures kept { λ r. ⌜ (Refused (r .refusal) → now (out .exit) ≡ now (out .entry)) ⌝ }
     ensures beyond { λ r. ⌜ drop (r .words) (now (out .exit)) ≡ drop (r .words) (now (out .entry)) ⌝ }
 {
-    packets::extract(raster, line, channel, y, c, out)
+    finding::extract(raster, line, channel, y, c, out)
 }
 
 // 4, 5, 2, 3. A row that is corrected has T words in each slice, and nothing beyond.

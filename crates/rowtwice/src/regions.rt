@@ -2,9 +2,9 @@
 // arguments, and equal answers and equal buffers follow from its contract alone.
 ghost use mathlib.Core.Path.{_≡_};
 ghost use mathlib.Core.Bool.{true};
+use finding::Channel;
+use finding::Extracted;
 use packet::Built;
-use packets::Channel;
-use packets::Extracted;
 use plan::Plan;
 use scan::Here;
 use scan::Scanned;
@@ -168,16 +168,16 @@ pub fn build(did: u8, sdid: u8, user: &[u16], a: &mut [u16], b: &mut [u16]) -> T
 pub fn find<'a>(raster: u32, line: u32, did: u8, sdid: u8, y: &'a [u16], c: &'a [u16]) -> bool
     ensures { λ r. ⌜ r ≡ true ⌝ }
 {
-    let first = packets::find(raster, line, did, sdid, y, c);
-    let second = packets::find(raster, line, did, sdid, y, c);
+    let first = finding::find(raster, line, did, sdid, y, c);
+    let second = finding::find(raster, line, did, sdid, y, c);
     parts::same(first, second)
 }
 
 pub fn find_refusal(raster: u32, line: u32, did: u8, sdid: u8, y: &[u16], c: &[u16]) -> Numbers
     ensures { λ r. ⌜ r .first ≡ r .second ⌝ }
 {
-    let first = packets::find_refusal(raster, line, did, sdid, y, c);
-    let second = packets::find_refusal(raster, line, did, sdid, y, c);
+    let first = finding::find_refusal(raster, line, did, sdid, y, c);
+    let second = finding::find_refusal(raster, line, did, sdid, y, c);
     Numbers { first, second }
 }
 
@@ -192,7 +192,7 @@ pub fn extract(
 ) -> TwoExtracted
     ensures { λ r. ⌜ (now (a .entry) ≡ now (b .entry) → (r .first ≡ r .second) × (now (a .exit) ≡ now (b .exit))) ⌝ }
 {
-    let first = packets::extract(raster, line, channel, y, c, a);
-    let second = packets::extract(raster, line, channel, y, c, b);
+    let first = finding::extract(raster, line, channel, y, c, a);
+    let second = finding::extract(raster, line, channel, y, c, b);
     TwoExtracted { first, second }
 }

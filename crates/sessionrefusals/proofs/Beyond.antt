@@ -24,7 +24,7 @@ use Rattle.stepper.specs.Step.{Run, run, recognised, stepped, steps}
 use Rattle.session.specs.declared.Session.{Session}
 use Rattle.session.specs.Session.{feedRefusal, fedRun, fedY, fedC}
 use Rattle.session.proofs.Refusing.{ready-raster, feed-taken}
-use Rattle.module.proofs.Folds.{steps-keep}
+use Rattle.law_module.proofs.Folds.{steps-keep}
 
 -- ---- an event, bits: rows of at most so many words
 

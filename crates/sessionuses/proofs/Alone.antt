@@ -7,12 +7,12 @@ use native.Mathlib.Omega.{arith}
 use Rattle.raster.specs.Table.{rasterOk}
 use Rattle.session.specs.declared.Session.{Session}
 use Rattle.session.specs.Session.{closed, inRange, begun, ended}
-use Rattle.module.specs.Runs.{Bench, bench, started, played, answered, left}
-use Rattle.module.proofs.Refusals.{end-answers}
-use Rattle.module.proofs.Ranges.{closed-in-range, begun-in-range, ended-in-range}
-use Rattle.module.proofs.Between.{begunAs, begun-opens, ended-shut}
-use Rattle.module.proofs.Feeds.{fedAll-in-range, length-fedAll}
-use Rattle.module.proofs.Own.{own, taken-by-words, answer-is-the-modules-own, second-is-its-own}
+use Rattle.law_module.specs.Runs.{Bench, bench, started, played, answered, left}
+use Rattle.law_module.proofs.Refusals.{end-answers}
+use Rattle.law_module.proofs.Ranges.{closed-in-range, begun-in-range, ended-in-range}
+use Rattle.law_module.proofs.Between.{begunAs, begun-opens, ended-shut}
+use Rattle.law_module.proofs.Feeds.{fedAll-in-range, length-fedAll}
+use Rattle.law_module.proofs.Own.{own, taken-by-words, answer-is-the-modules-own, second-is-its-own}
 use Rattle.sessionuses.specs.Uses.{Fits, nothingIn}
 use Rattle.sessionuses.proofs.Opened.{opened-in-range}
 

@@ -7,7 +7,7 @@ use Rattle.session.specs.declared.Begun.{Begun}
 use Rattle.session.specs.declared.Fed.{Fed}
 use Rattle.session.specs.declared.Ended.{Ended}
 use Rattle.session.specs.Session.{begun, fed, fedY, fedC, ended}
-use Rattle.module.specs.Runs.{Bench, bench, fedOnce, fedAll, started, answered, left}
+use Rattle.law_module.specs.Runs.{Bench, bench, fedOnce, fedAll, started, answered, left}
 
 pub bench-begun : (s : Session) (code : ℕ) (y c : List ℕ) {g : Begun} → g ≡ begun s code → bench (g .session) y c ≡ started code (bench s y c)
 bench-begun s code y c e = rw e

@@ -8,8 +8,8 @@ use Rattle.bits.proofs.Words.{words10-append}
 use Rattle.session.specs.declared.Session.{Session}
 use Rattle.session.specs.Session.{feedRefusal, fed, fedY, fedC}
 use Rattle.session.proofs.Refusing.{feed-taken}
-use Rattle.module.specs.Runs.{Bench, fedOnce, fedAll}
-use Rattle.module.proofs.Cuts.{fedAll-of-pieces}
+use Rattle.law_module.specs.Runs.{Bench, fedOnce, fedAll}
+use Rattle.law_module.proofs.Cuts.{fedAll-of-pieces}
 
 -- "A refusal .. changes no buffer and no session."
 fedOnce-refused : (ws : List ℕ) (x : Bench) (n : ℕ) → feedRefusal (x .session) ws (x .y) (x .c) ≡ suc n → fedOnce ws x ≡ x

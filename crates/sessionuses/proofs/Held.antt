@@ -12,13 +12,13 @@ use Rattle.stepper.specs.Step.{run}
 use Rattle.session.specs.declared.Session.{Session}
 use Rattle.session.specs.declared.Fed.{Fed}
 use Rattle.session.specs.Session.{startState, fedRun, fed, fedY, fedC}
-use Rattle.module.specs.Module.{begunRun, bitsOf}
-use Rattle.module.specs.Runs.{Bench, bench, fedOnce}
-use Rattle.module.proofs.Between.{begunAs}
-use Rattle.module.proofs.Feeds.{benchAfter, taken-feed}
-use Rattle.module.proofs.Follows.{Follows, steps-follow}
+use Rattle.law_module.specs.Module.{begunRun, bitsOf}
+use Rattle.law_module.specs.Runs.{Bench, bench, fedOnce}
+use Rattle.law_module.proofs.Between.{begunAs}
+use Rattle.law_module.proofs.Feeds.{benchAfter, taken-feed}
+use Rattle.law_module.proofs.Follows.{Follows, steps-follow}
 use Rattle.sessionuses.specs.Uses.{Fits, openRow, runOf}
-use Rattle.module.proofs.Own.{total-of-meant}
+use Rattle.law_module.proofs.Own.{total-of-meant}
 use Rattle.sessionuses.proofs.Opened.{opened-in-range}
 
 module _ (code : ℕ) (ok : rasterOk code ≡ true) (ws y c : List ℕ) (w : words10 ws ≡ true) (room : Fits code y c) where

@@ -6,8 +6,8 @@ use Rattle.raster.specs.Table.{rasterOk}
 use Rattle.session.specs.declared.Session.{Session}
 use Rattle.session.specs.declared.Begun.{Begun}
 use Rattle.session.specs.Session.{closed, inRange, begun}
-use Rattle.module.proofs.Ranges.{closed-in-range, begun-in-range}
-use Rattle.module.proofs.Between.{begunAs, begun-opens}
+use Rattle.law_module.proofs.Ranges.{closed-in-range, begun-in-range}
+use Rattle.law_module.proofs.Between.{begunAs, begun-opens}
 
 module _ (code : ℕ) (ok : rasterOk code ≡ true) where
   fresh-opens : begun closed code ≡ record { refusal = 0; session = begunAs code }

@@ -3,7 +3,7 @@ use mathlib.Core.List.{List}
 use Prim.Native.Nat.{ℕ, _≤_, min}
 use lib.ListN.{length, take}
 use Rattle.raster.specs.Table.{meant, totalOf}
-use Rattle.module.specs.Module.{afterBits, bitsOf}
+use Rattle.law_module.specs.Module.{afterBits, bitsOf}
 use Rattle.tally.specs.declared.Verdict.the-variants.{NoSignal}
 use Rattle.tally.specs.Tally.{noCounts}
 use Rattle.stepper.specs.Step.{Run}

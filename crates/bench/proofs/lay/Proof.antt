@@ -3,24 +3,24 @@ use mathlib.Core.List.{List}
 use Prim.Native.Nat.{ℕ, _≤_}
 use native.Mathlib.Omega.{arith}
 use borrow.Author.Needs.{needs}
-use Rattle.line.specs.declared.Line.{Line}
-use Rattle.line.specs.Line.{boxed}
+use Rattle.label.specs.declared.Label.{Label}
+use Rattle.label.specs.Label.{boxed}
 use Rattle.bench.proofs.lay.Statement.{statement}
 use Rattle.bench.proofs.lay.Tie as tie
 
 -- a line has at most its room
-size-within : (t : List ℕ) (l : Line) → l ≡ boxed t → l .size ≤ 96
+size-within : (t : List ℕ) (l : Label) → l ≡ boxed t → l .size ≤ 96
 unfolding boxed
 size-within t l e = rw e (omega arith)
 
-line-of-requires : tie.Need-line-of-requires
-line-of-requires c κs = search needs
+label-of-requires : tie.Need-label-of-requires
+label-of-requires c κs = search needs
 
 add-end : tie.Need-add-end
-add-end c = omega (arith, size-within _ _ (c .before .line-of .ensures))
+add-end c = omega (arith, size-within _ _ (c .before .label-of .ensures))
 
 put-requires : tie.Need-put-requires
-put-requires c κs = (size-within _ _ (c .before .before .line-of .ensures), c .before .before .before .pre)
+put-requires c κs = (size-within _ _ (c .before .before .label-of .ensures), c .before .before .before .pre)
 
 sub-if1 : tie.Need-sub-if1
 sub-if1 c = search needs
@@ -29,7 +29,7 @@ returns : tie.Need-returns
 returns c = search needs
 
 write-first-requires : tie.Need-write-first-requires
-write-first-requires c κs = omega (arith, size-within _ _ (c .before .before .before .before .before .before .line-of .ensures))
+write-first-requires c κs = omega (arith, size-within _ _ (c .before .before .before .before .before .before .label-of .ensures))
 
 returns-2 : tie.Need-returns-2
 returns-2 c = search needs
@@ -37,4 +37,4 @@ returns-2 c = search needs
 pub lay-spec : {M : Type 1} → statement M
 lay-spec =
     tie.close
-    (tie.spec line-of-requires add-end put-requires sub-if1 returns write-first-requires returns-2)
+    (tie.spec label-of-requires add-end put-requires sub-if1 returns write-first-requires returns-2)

@@ -1,5 +1,5 @@
 use borrow.Author.Needs.{needs}
-use Rattle.jobs.proofs.Walking.{taken-within}
+use Rattle.desk.proofs.Walking.{taken-within}
 use Rattle.bench.proofs.serve_job.Statement.{statement}
 use Rattle.bench.proofs.serve_job.Tie as tie
 

@@ -1,5 +1,5 @@
 use borrow.Author.Needs.{needs}
-use Rattle.jobs.specs.Desk.{finished}
+use Rattle.desk.specs.Desk.{finished}
 use Rattle.filerefusals.proofs.finish.Statement.{statement}
 use Rattle.filerefusals.proofs.finish.Tie as tie
 

@@ -3,7 +3,7 @@ use mathlib.Core.List.{List}
 use Prim.Native.Nat.{ℕ}
 use borrow.Author.Needs.{needs}
 use Rattle.session.specs.Session.{ended}
-use Rattle.module.specs.Runs.{Bench, bench, fedOnce, started}
+use Rattle.law_module.specs.Runs.{Bench, bench, fedOnce, started}
 use Rattle.sessionuses.proofs.Benches.{bench-begun, bench-fed}
 use Rattle.sessionuses.proofs.Cut.{fedOnce-twice}
 use Rattle.sessionuses.proofs.modules.fed_in_two.Statement.{statement}

@@ -3,7 +3,7 @@ use mathlib.Core.List.{[], _∷_}
 use borrow.Author.Needs.{needs}
 use Rattle.session.specs.declared.Begun.{Begun}
 use Rattle.session.specs.Session.{begun, ended}
-use Rattle.module.specs.Runs.{Bench, bench, left}
+use Rattle.law_module.specs.Runs.{Bench, bench, left}
 use Rattle.sessionuses.proofs.Benches.{bench-ended}
 use Rattle.sessionuses.proofs.Alone.{left-shut, left-in-range, ended-of-no-words}
 use Rattle.sessionuses.proofs.modules.nothing_after_a_module.Statement.{statement}

@@ -2,7 +2,7 @@ use mathlib.Core.Path.{sym, ap, _∙_}
 use mathlib.Core.List.{[], _∷_}
 use borrow.Author.Needs.{needs}
 use Rattle.session.specs.declared.Session.{Session}
-use Rattle.module.specs.Runs.{bench, answered}
+use Rattle.law_module.specs.Runs.{bench, answered}
 use Rattle.sessionuses.proofs.Benches.{bench-ended}
 use Rattle.sessionuses.proofs.Alone.{second-alone}
 use Rattle.sessionuses.proofs.modules.second_in_used_buffers.Statement.{statement}

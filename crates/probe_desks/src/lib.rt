@@ -47,7 +47,7 @@ fn with_rows(args: &[u32], at: usize, bytes: &[u8]) {
 }
 
 fn label(args: &[u32]) {
-    let line = label::label_of(outcomes::outcome_of(args));
+    let line = sdi::label_of(outcomes::outcome_of(args));
     let bytes = line.bytes;
     first(line.size as u64);
     then_bytes(&bytes, line.size);

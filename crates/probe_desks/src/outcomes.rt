@@ -1,9 +1,6 @@
 // Outcomes: told, 81 and 82, and made from a request, 83.
 use crate::bytes::take_bytes;
 use crate::bytes::then_bytes;
-use desk::Job;
-use desk::Kind;
-use desk::Outcome;
 use probe_answers::numbers::arg;
 use probe_answers::numbers::byte;
 use probe_answers::numbers::flag;
@@ -11,8 +8,11 @@ use probe_answers::numbers::then;
 use probe_sessions::fields::counts_at;
 use probe_sessions::fields::then_counts;
 use probe_sessions::fields::verdict_number;
-use reader::Tag;
-use tally::Verdict;
+use sdi::Job;
+use sdi::Outcome;
+use sdi::OutcomeKind;
+use sdi::Tag;
+use sdi::Verdict;
 
 // An outcome, after the first number of a line.
 pub fn then_outcome(outcome: Outcome) {
@@ -27,11 +27,11 @@ pub fn then_outcome(outcome: Outcome) {
     then(verdict_number(verdict));
 }
 
-fn then_kind(kind: Kind) {
+fn then_kind(kind: OutcomeKind) {
     match kind {
-        Kind::Nothing => then_two(0, 0),
-        Kind::Done => then_two(1, 0),
-        Kind::BadFile(number) => then_two(2, number as u64),
+        OutcomeKind::Nothing => then_two(0, 0),
+        OutcomeKind::Done => then_two(1, 0),
+        OutcomeKind::BadFile(number) => then_two(2, number as u64),
     }
 }
 
@@ -72,11 +72,11 @@ fn tag_of(args: &[u32]) -> Tag {
     }
 }
 
-fn kind_of(n: u32, refusal: u8) -> Kind {
+fn kind_of(n: u32, refusal: u8) -> OutcomeKind {
     match n {
-        0 => Kind::Nothing,
-        1 => Kind::Done,
-        _ => Kind::BadFile(refusal),
+        0 => OutcomeKind::Nothing,
+        1 => OutcomeKind::Done,
+        _ => OutcomeKind::BadFile(refusal),
     }
 }
 

@@ -68,7 +68,7 @@ fn built(
     c: &mut [u16],
 ) {
     let carry = carry_at(args, 3);
-    let made = compose::build(
+    let made = sdi::build_row(
         arg(args, 1),
         arg(args, 2),
         carry,

@@ -1,7 +1,7 @@
 // Carries: read from a request, printed into an answer.
 use probe_answers::numbers::arg;
 use probe_answers::numbers::then;
-use row::Carry;
+use sdi::Carry;
 
 // The carry at a place of a request.
 pub fn carry_at(args: &[u32], at: usize) -> Carry {

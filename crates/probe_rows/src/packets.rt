@@ -1,11 +1,11 @@
 // Packets, 50 to 52.
-use finding::Channel;
 use probe_answers::numbers::arg;
 use probe_answers::numbers::byte;
 use probe_answers::numbers::first;
 use probe_answers::numbers::two;
 use probe_answers::runs::take_runs;
 use probe_answers::runs::then_runs;
+use sdi::Channel;
 
 pub fn build(args: &[u32]) {
     let mut user = [0u16; 20000];
@@ -22,14 +22,14 @@ pub fn build(args: &[u32]) {
 }
 
 fn built(did: u8, sdid: u8, user: &[u16], out: &mut [u16]) {
-    let made = packet::build(did, sdid, user, out);
+    let made = sdi::build_packet(did, sdid, user, out);
     two(made.refusal as u64, made.words as u64);
     then_runs(out);
 }
 
 pub fn find<'a>(raster: u32, line: u32, did: u8, sdid: u8, y: &'a [u16], c: &'a [u16]) {
-    first(finding::find_refusal(raster, line, did, sdid, y, c) as u64);
-    then_runs(finding::find(raster, line, did, sdid, y, c));
+    first(sdi::find_refusal(raster, line, did, sdid, y, c) as u64);
+    then_runs(sdi::find_packet(raster, line, did, sdid, y, c));
 }
 
 fn channel_of(n: u32) -> Channel {
@@ -54,7 +54,7 @@ pub fn extract(args: &[u32], at: usize, y: &[u16], c: &[u16]) {
 }
 
 fn extracted(raster: u32, line: u32, channel: Channel, y: &[u16], c: &[u16], out: &mut [u16]) {
-    let got = finding::extract(raster, line, channel, y, c, out);
+    let got = sdi::extract_packets(raster, line, channel, y, c, out);
     two(got.refusal as u64, got.words as u64);
     then_runs(out);
 }

@@ -1,5 +1,4 @@
 // Sessions: read from a request, printed into an answer.
-use judging::Track;
 use probe_answers::numbers::arg;
 use probe_answers::numbers::byte;
 use probe_answers::numbers::flag;
@@ -7,13 +6,14 @@ use probe_answers::numbers::then;
 use probe_answers::numbers::word;
 use probe_rows::carries::carry_at;
 use probe_rows::carries::then_carry;
-use recogniser::Place;
-use recogniser::Sight;
-use recogniser::Window;
-use session::Session;
-use stepper::State;
-use tally::Counts;
-use tally::Verdict;
+use sdi::Counts;
+use sdi::Place;
+use sdi::Session;
+use sdi::Sight;
+use sdi::State;
+use sdi::Track;
+use sdi::Verdict;
+use sdi::Window;
 
 // The session that stands at a place of a request.
 pub fn session_at(args: &[u32], at: usize) -> Session {

@@ -13,8 +13,8 @@ use probe_answers::numbers::then;
 use probe_answers::numbers::word;
 use probe_answers::runs::take_runs;
 use probe_answers::runs::then_rows;
-use session::Ended;
-use session::Session;
+use sdi::Ended;
+use sdi::Session;
 
 // Answers the request whose numbers these are.
 pub fn answer(args: &[u32]) {

@@ -72,6 +72,6 @@ pub fn take_signal(args: &[u32], at: usize, history: u16, words: &mut [u16]) -> 
     }
     let mut written = [0u16; 40000];
     parts::lay(&mut written, 0, words);
-    cable::scramble(history, parts::part(&written, 0, taken.count), words);
+    sdi::scramble(history, parts::part(&written, 0, taken.count), words);
     taken
 }

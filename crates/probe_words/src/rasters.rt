@@ -3,11 +3,11 @@ use probe_answers::numbers::first;
 use probe_answers::numbers::flag;
 use probe_answers::numbers::then;
 use probe_answers::numbers::three;
-use raster::Kind;
-use raster::Raster;
+use sdi::Kind;
+use sdi::Raster;
 
 pub fn raster_of(code: u32) {
-    let looked = raster::raster_of(code);
+    let looked = sdi::raster_of(code);
     first(looked.refusal as u64);
     then_raster(looked.raster);
 }
@@ -37,10 +37,10 @@ fn kind_of(n: u32) -> Kind {
 }
 
 pub fn name(total: u32, active: u32, rows: u32, kind: u32) {
-    first(raster::name(total, active, rows, kind_of(kind)) as u64);
+    first(sdi::name_raster(total, active, rows, kind_of(kind)) as u64);
 }
 
 pub fn line_facts(raster: u32, line: u32) {
-    let facts = raster::line_facts(raster, line);
+    let facts = sdi::line_facts(raster, line);
     three(facts.refusal as u64, flag(facts.v), flag(facts.f));
 }

@@ -7,11 +7,11 @@ use probe_answers::numbers::two;
 pub fn run(args: &[u32]) {
     let mut words = [0u16; 20000];
     let n = take_words(args, 2, &mut words);
-    let ran = crc::run(arg(args, 1), &words[0..n]);
+    let ran = sdi::crc_after(arg(args, 1), &words[0..n]);
     two(ran.refusal as u64, ran.register as u64);
 }
 
 pub fn words_of(register: u32) {
-    let made = crc::words_of(register);
+    let made = sdi::crc_words(register);
     three(made.refusal as u64, made.cr0 as u64, made.cr1 as u64);
 }

@@ -1,15 +1,22 @@
-# make test: the gate.  make run: proves and builds `bench`, and runs it on the sample captures.
+# make test: the gate.  make check: what takes two minutes of it, for who edits.  make run: proves and builds `bench`, and runs it on the sample captures.
+# make pages: writes the made parts of docs/ anew.
 # make soak SEEDS=n: the comparison with the second program on n seeds more.  make speed: how quick `bench` is.
 # make mistakes: what the comparison finds of mistakes in the second program.
-.PHONY: test run soak speed mistakes
+.PHONY: test check run pages soak speed mistakes
 
 SEEDS = 10
 
 test:
 	@tools/gate
 
+check:
+	@tools/check
+
 run:
 	@tools/samples
+
+pages:
+	@tools/pages write
 
 soak:
 	@tools/soak $(SEEDS)

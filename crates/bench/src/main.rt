@@ -1,18 +1,16 @@
 // Reads a bench file on standard input and prints a line per job. Proved safe, no more: what it prints is the library's.
-use desk::Desk;
-use desk::Kind;
-use desk::Outcome;
-use label::Label;
 use libc::STDIN_FILENO;
 use libc::STDOUT_FILENO;
-ghost use Prim.Native.Nat.{_≤_};
+use sdi::Desk;
+use sdi::Label;
+use sdi::Outcome;
+use sdi::OutcomeKind;
+ghost use Prim.Native.Nat.{_+_, _≤_};
 ghost use lib.ListN.{length};
+ghost use Rattle.label.specs.Label.{room};
 
 // Lines wait in an output of so many bytes, and are written out together.
 const OUTPUT: usize = 4096;
-
-// The room of a line.
-const LINE: usize = 96;
 
 // How many bytes of the output are laid; open: those that were written out were taken.
 struct Laid {
@@ -28,11 +26,11 @@ struct Served {
     desk: Desk,
 }
 
-fn is_refused(kind: Kind) -> bool {
+fn is_refused(kind: OutcomeKind) -> bool {
     match kind {
-        Kind::Nothing => false,
-        Kind::Done => false,
-        Kind::BadFile(_) => true,
+        OutcomeKind::Nothing => false,
+        OutcomeKind::Done => false,
+        OutcomeKind::BadFile(_) => true,
     }
 }
 
@@ -43,9 +41,9 @@ fn write_first(bytes: &[u8], count: usize) -> bool
     io::write_all(STDOUT_FILENO, &bytes[..count])
 }
 
-// Copies a line to a place that has its room: at most 4,000 of the 4,096 bytes stand before it.
+// Copies a line to a place that has its room.
 fn put(line: Label, out: &mut [u8; OUTPUT], at: usize)
-    requires { ⌜ (line .size ≤ 96) × (at ≤ 4000) ⌝ }
+    requires { ⌜ (line .size ≤ room) × (at + room ≤ 4096) ⌝ }
 {
     let bytes = line.bytes;
     let size = line.size;
@@ -58,13 +56,13 @@ fn put(line: Label, out: &mut [u8; OUTPUT], at: usize)
 
 // Lays the line of an outcome after those before it, and writes all out where less than the room of a line is left.
 fn lay(outcome: Outcome, out: &mut [u8; OUTPUT], laid: usize) -> Laid
-    requires { ⌜ laid ≤ 4000 ⌝ }
-    ensures { λ r. ⌜ r .bytes ≤ 4000 ⌝ }
+    requires { ⌜ laid + room ≤ 4096 ⌝ }
+    ensures { λ r. ⌜ r .bytes + room ≤ 4096 ⌝ }
 {
-    let line = label::label_of(outcome);
+    let line = sdi::label_of(outcome);
     let end = laid + line.size;
     put(line, out, laid);
-    if end <= OUTPUT - LINE {
+    if end <= OUTPUT - Label::ROOM {
         return Laid {
             bytes: end,
             open: true,
@@ -85,8 +83,8 @@ fn serve_job(
     out: &mut [u8; OUTPUT],
     laid: usize,
 ) -> Served
-    requires { ⌜ laid ≤ 4000 ⌝ }
-    ensures { λ r. ⌜ (r .bytes ≤ length (now (bytes .entry))) × (r .laid ≤ 4000) ⌝ }
+    requires { ⌜ laid + room ≤ 4096 ⌝ }
+    ensures { λ r. ⌜ (r .bytes ≤ length (now (bytes .entry))) × (r .laid + room ≤ 4096) ⌝ }
 {
     let taken = desk.take(bytes, y, c);
     let desk = taken.desk;

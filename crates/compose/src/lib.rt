@@ -54,7 +54,7 @@ fn lay_head(plan: Plan, known: bool, register: u32, out: &mut [u16])
 {
     let places = plan.places;
     let codes = plan.codes;
-    parts::lay(out, 0, &[0x3ff, 0x000, 0x000, codes.eav]);
+    parts::lay(out, 0, &stream::trs(codes.eav));
     lay_pair(out, 4, places.lines, codes.ln0, codes.ln1);
     if !known {
         lay_pair(out, places.crc, places.checks, 0x200, 0x200);
@@ -86,7 +86,7 @@ fn lay_stream(
         plan.places.blanks - blanking.len(),
         blank,
     );
-    parts::lay(out, plan.places.sav, &[0x3ff, 0x000, 0x000, plan.codes.sav]);
+    parts::lay(out, plan.places.sav, &stream::trs(plan.codes.sav));
     parts::lay(out, plan.places.active, active);
 }
 

@@ -4,7 +4,7 @@ use Prim.Native.Nat.{ℕ}
 use Rattle.parts.specs.Parts.{laidUnless}
 use Rattle.plan.specs.Plan.{planOf}
 use Rattle.compose.specs.Compose.{builtFor, yStream, cStream}
-use Rattle.lineuses.proofs.BuiltRow.{row-answered, row-clean}
+use Rattle.law_row.proofs.BuiltRow.{row-answered, row-clean}
 use Rattle.demands.specs.Demands.{BuiltNoFlag}
 
 pub built-no-flag : BuiltNoFlag

@@ -4,7 +4,7 @@ use Prim.Native.Nat.{ℕ}
 use Rattle.parts.specs.Parts.{unlessRefused}
 use Rattle.plan.specs.Plan.{planOf}
 use Rattle.repair.specs.Answer.{correctedY, correctedC}
-use Rattle.lineuses.proofs.CorrectedRow.{correction-number, correction-clear, correction-wiped, correction-unwiped}
+use Rattle.law_row.proofs.CorrectedRow.{correction-number, correction-clear, correction-wiped, correction-unwiped}
 use Rattle.demands.specs.Demands.{CorrectedFlags}
 
 pub corrected-flags : CorrectedFlags

@@ -10,7 +10,7 @@ use Rattle.reader.specs.declared.Stage.the-variants.{TagCount, TagBytes, Option
 use Rattle.reader.specs.declared.Reader.{Reader}
 use Rattle.reader.specs.declared.Read.{Read}
 use Rattle.reader.specs.Reader.{tagSizeOk, printable, optionsSizeOk, wipeOk, wordOf, wordOk, counted, ofTagCount, ofTagByte, ofOptionsCount, ofWipeByte, ofWordCount, ofHighByte, readAt}
-use Rattle.filerefusals.specs.Refusals.{pieceRefusal}
+use Rattle.law_refusal.specs.Files.{pieceRefusal}
 use Rattle.demands.specs.Demands.{firstFailed, byteTests}
 use Rattle.demands.proofs.Cases.{of-test, of-tests, of-either, of-any}
 

@@ -35,8 +35,8 @@ use Rattle.session.specs.Session.{beginRefusal, begunBy, begun, feedRefusal, fe
 use Rattle.law_module.specs.Runs.{bench}
 use Rattle.reader.specs.Reader.{readOf}
 use Rattle.desk.specs.Desk as Desk
-use Rattle.rowrefusals.proofs.Numbers.{numbered, row-number, check-number, correct-number, extract-number, build-number}
-use Rattle.filerefusals.proofs.Taking.{takeRefusal-by}
+use Rattle.law_refusal.proofs.Rows.{numbered, row-number, check-number, correct-number, extract-number, build-number}
+use Rattle.law_refusal.proofs.Files.{takeRefusal-by}
 use Rattle.demands.specs.Demands.{Test, firstFailed, Answers, Keeps, EachCall}
 use Rattle.demands.proofs.Cases.{of-test, of-tests, of-either}
 use Rattle.demands.proofs.EachByte.{each-byte}

@@ -1,5 +1,5 @@
 -- What any module leaves is not open, and in range.
-use Rattle.sessionuses.proofs.Alone.{left-shut, left-in-range}
+use Rattle.law_module.proofs.Alone.{left-shut, left-in-range}
 use Rattle.demands.specs.Demands.{LeftBetween}
 
 pub left-between : LeftBetween

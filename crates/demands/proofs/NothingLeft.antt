@@ -1,6 +1,6 @@
 -- A module without words has no signal, whatever was before it.
 use Rattle.law_module.specs.Runs.{fedAll}
-use Rattle.sessionuses.proofs.Alone.{ended-of-no-words}
+use Rattle.law_module.proofs.Alone.{ended-of-no-words}
 use Rattle.demands.specs.Demands.{NothingLeft}
 
 pub nothing-left : NothingLeft

@@ -3,7 +3,7 @@ use mathlib.Core.Path.{refl}
 use Rattle.parts.specs.Parts.{laid}
 use Rattle.parts.proofs.Comparing.{same-true}
 use Rattle.finding.specs.Find.{findOf}
-use Rattle.lineuses.proofs.FoundPacket.{sought-found}
+use Rattle.law_row.proofs.FoundPacket.{sought-found}
 use Rattle.demands.specs.Demands.{builtPacket, PacketFound}
 
 pub packet-found : PacketFound

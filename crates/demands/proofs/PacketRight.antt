@@ -3,7 +3,7 @@ use mathlib.Core.Path.{refl, sym, ap, _∙_}
 use lib.ListN.{length}
 use Rattle.packet.proofs.Refusals.{room-of-built}
 use Rattle.law_row.specs.Lawful.{rightPacket}
-use Rattle.lineuses.proofs.FoundPacket as Found
+use Rattle.law_row.proofs.FoundPacket as Found
 use Rattle.demands.specs.Demands.{PacketRight}
 
 pub packet-right : PacketRight

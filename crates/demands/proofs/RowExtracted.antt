@@ -31,10 +31,10 @@ use Rattle.compose.specs.Compose.{blankingFor, streamOf, yStream, cStream, buil
 use Rattle.law_row.specs.Lawful.{allRight}
 use Rattle.law_row.proofs.BuiltParts.{blankingOf-streamOf, activeOf-streamOf}
 use Rattle.law_row.proofs.Calm.{whole-packets, plain-no-zero}
-use Rattle.lineuses.specs.Laid.{LawfulLine}
-use Rattle.lineuses.specs.Struck.{total}
-use Rattle.lineuses.proofs.Checked.{row-taken}
-use Rattle.lineuses.proofs.BuiltRow.{long-y, long-c, built-fits, built-y, built-c}
+use Rattle.law_row.specs.Laid.{LawfulLine}
+use Rattle.law_burst.specs.TwoRows.{total}
+use Rattle.law_row.proofs.Checked.{row-taken}
+use Rattle.law_row.proofs.BuiltRow.{long-y, long-c, built-fits, built-y, built-c}
 use Rattle.demands.specs.Demands.{builtRow, extractedPackets, RowExtracted}
 
 -- ---- one stream: its packets are those laid, for neither blanking nor an active word is 000

@@ -2,7 +2,7 @@
 use mathlib.Core.Path.{refl}
 use mathlib.Core.List.{_++_}
 use lib.ListN.{length}
-use Rattle.lineuses.proofs.StruckRows.{next-seen, rows-flagged}
+use Rattle.law_burst.proofs.TwoRows.{next-seen, rows-flagged}
 use Rattle.demands.specs.Demands.{RowsStruck}
 
 pub rows-struck : RowsStruck

@@ -37,14 +37,16 @@ use Rattle.repair.specs.Repair.{wipedIf}
 use Rattle.repair.specs.Answer.{correctRefusal, correctedY, correctedC, corrected}
 use Rattle.compose.specs.Compose.{yStream, cStream, roomOk, buildRefusal, builtFor}
 use Rattle.law_row.specs.Lawful.{rightPacket}
+use Rattle.law_row.specs.Laid.{LawfulLine, PlaceAfter}
 use Rattle.law_burst.specs.Stretch.{crcFlagged, BurstFlagged}
+use Rattle.law_burst.specs.TwoRows.{total, nextChecked, TwoRows, Struck}
 use Rattle.tally.specs.declared.Verdict.the-variants.{NoSignal}
 use Rattle.tally.specs.Tally.{noCounts}
 use Rattle.session.specs.declared.Session.{Session}
 use Rattle.session.specs.declared.Ended.{Ended}
 use Rattle.session.specs.Session.{closed, inRange, beginRefusal, begun, feedRefusal, fed, ended}
 use Rattle.law_module.specs.Module.{Answer, moduleOf}
-use Rattle.law_module.specs.Runs.{Bench, fedOnce, fedAll, started, answered, left}
+use Rattle.law_module.specs.Runs.{Bench, fedOnce, fedAll, started, answered, left, Fits}
 use Rattle.law_clean.specs.Signal.{CleanPasses, CleanPassesShort, WindowPasses}
 use Rattle.law_struck.specs.Struck.{StruckFails}
 use Rattle.reader.specs.declared.Stage.{Stage}
@@ -58,11 +60,9 @@ use Rattle.desk.specs.Desk as Desk
 use Rattle.law_file.specs.File.{outcomesOf}
 use Rattle.law_file.specs.Serving.{afterTake}
 use Rattle.law_file.specs.Promises.{NeverRefused, ServedAlike, PiecesServed, BenchPrints, JobAlone, RefusedAlone}
-use Rattle.lineuses.specs.Laid.{LawfulLine, PlaceAfter}
-use Rattle.lineuses.specs.Struck.{total, nextChecked, TwoRows, Struck}
-use Rattle.sessionuses.specs.Uses.{Fits}
-use Rattle.rowrefusals.specs.Refusals.{Refused, rowsOk, partsOk, wordsOk}
-use Rattle.filerefusals.specs.Refusals.{pieceRefusal, countOk, ready, roomy}
+use Rattle.law_refusal.specs.Answers.{Refused}
+use Rattle.law_refusal.specs.Rows.{rowsOk, partsOk, wordsOk}
+use Rattle.law_refusal.specs.Files.{pieceRefusal, countOk, ready, roomy}
 use Rattle.demands.specs.Numbers.{NumbersHold}
 
 -- ==== Demand 1

@@ -87,12 +87,11 @@ fn jobless(kind: Kind) -> Outcome
     ensures { λ r. ⌜ r ≡ jobless kind ⌝ }
 {
     let tag = Reader::fresh().tag;
-    let counts = Counts { rows: 0, faults: 0 };
     let job = Job {
         tag,
         raster: 0,
         wipe: false,
-        counts,
+        counts: Counts::none(),
         verdict: Verdict::Refused,
     };
     Outcome { kind, job }

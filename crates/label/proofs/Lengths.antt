@@ -10,7 +10,7 @@ use Rattle.desk.specs.declared.Job.{Job}
 use Rattle.desk.specs.declared.Kind.{Kind}
 use Rattle.desk.specs.declared.Kind.the-variants.{Nothing, Done, BadFile}
 use Rattle.desk.specs.declared.Outcome.{Outcome}
-use Rattle.label.specs.Label.{badFileLabel, decimal, jobLabel, labelBy, lineEnd, labelOf, tagText}
+use Rattle.label.specs.Label.{badFileLabel, decimal, jobLabel, labelBy, lineEnd, labelOf, room, tagText}
 use Rattle.label.proofs.Digits.{length-of-decimalIn}
 
 length-of-label : (v : Verdict) → length (label v) ≤ 9
@@ -20,7 +20,7 @@ length-of-label Fail = omega arith
 length-of-label Short = omega arith
 length-of-label Pass = omega arith
 
-length-of-jobLabel : (j : Job) → length (tagText (j .tag)) ≤ 32 → length (jobLabel j) ≤ 96
+length-of-jobLabel : (j : Job) → length (tagText (j .tag)) ≤ 32 → length (jobLabel j) ≤ room
 unfolding jobLabel
 length-of-jobLabel j h =
     simp length-append
@@ -32,15 +32,15 @@ length-of-jobLabel j h =
       length-of-label (j .verdict),
     ))
 
-length-of-badFileLabel : (n : ℕ) → length (badFileLabel n) ≤ 96
+length-of-badFileLabel : (n : ℕ) → length (badFileLabel n) ≤ room
 unfolding badFileLabel
 length-of-badFileLabel n = omega (arith, length-append (decimal n) lineEnd, length-of-decimalIn 10 n)
 
 -- only a job's line has a tag
-pub length-of-labelOf : (o : Outcome) → (o .kind ≡ Done → length (tagText (o .job .tag)) ≤ 32) → length (labelOf o) ≤ 96
+pub length-of-labelOf : (o : Outcome) → (o .kind ≡ Done → length (tagText (o .job .tag)) ≤ 32) → length (labelOf o) ≤ room
 length-of-labelOf o = go (o .kind)
   where
-    go : (k : Kind) → (k ≡ Done → length (tagText (o .job .tag)) ≤ 32) → length (labelBy k (o .job)) ≤ 96
+    go : (k : Kind) → (k ≡ Done → length (tagText (o .job .tag)) ≤ 32) → length (labelBy k (o .job)) ≤ room
     go Nothing h = omega arith
     go Done h = length-of-jobLabel (o .job) (h refl)
     go (BadFile n) h = length-of-badFileLabel n

@@ -7,7 +7,7 @@ use lib.ListN.{length, drop, getD, set, drop-of-length-le}
 use lib.Seq.{drop-cons}
 use borrow.Author.Tests.{lt-ltb, le-ltb}
 use Rattle.label.specs.declared.Label.{Label}
-use Rattle.label.specs.Label.{decimal, digit}
+use Rattle.label.specs.Label.{decimal, digit, room}
 use Rattle.label.specs.Pushing.{pushed, written}
 use Rattle.label.proofs.Digits.{decimal-one, decimal-step}
 
@@ -20,19 +20,19 @@ abbrev pub line : List ℕ → ℕ → Label
 line bytes size = record { bytes = bytes; size = size }
 
 -- a byte that fits; and nothing does in a full line
-pushed-here : (b : ℕ) (bytes : List ℕ) (at : ℕ) → at < 96 → pushed b (line bytes at) ≡ line (set bytes at b) (at + 1)
+pushed-here : (b : ℕ) (bytes : List ℕ) (at : ℕ) → at < room → pushed b (line bytes at) ≡ line (set bytes at b) (at + 1)
 unfolding pushed
-pushed-here b bytes at h = rw (lt-ltb at 96 h)
+pushed-here b bytes at h = rw (lt-ltb at room h)
 
-pub written-step : (i : ℕ) (xs bytes : List ℕ) (at : ℕ) → i < length xs → at < 96
+pub written-step : (i : ℕ) (xs bytes : List ℕ) (at : ℕ) → i < length xs → at < room
     → written (drop i xs) (line bytes at) ≡ written (drop (i + 1) xs) (line (set bytes at (getD xs i 0)) (at + 1))
 unfolding written
 written-step i xs bytes at h k = rw (add-one i, drop-cons xs i 0) (ap (written (drop (suc i) xs)) (pushed-here (getD xs i 0) bytes at k))
 
-pub written-full : (xs : List ℕ) (l : Label) → 96 ≤ l .size → written xs l ≡ l
+pub written-full : (xs : List ℕ) (l : Label) → room ≤ l .size → written xs l ≡ l
 unfolding written pushed
 written-full [] l h = refl
-written-full (x ∷ xs) l h = rw (le-ltb (l .size) 96 h) (written-full xs l h)
+written-full (x ∷ xs) l h = rw (le-ltb (l .size) room h) (written-full xs l h)
 
 pub written-end : (i : ℕ) (xs : List ℕ) (l : Label) → length xs ≤ i → written (drop i xs) l ≡ l
 unfolding written

@@ -71,6 +71,10 @@ labelBy (BadFile n) j = badFileLabel n
 abbrev pub labelOf : Outcome → List ℕ
 labelOf o = labelBy (o .kind) (o .job)
 
--- a text in a line's 96 bytes: from the start, with zeros after it; what does not fit is left out
+-- the room of a line
+abbrev pub room : ℕ
+room = 96
+
+-- a text in a line's room: from the start, with zeros after it; what does not fit is left out
 unfoldable pub boxed : List ℕ → Label
-boxed text = record { bytes = take 96 (text ++ replicate 96 0); size = min (length text) 96 }
+boxed text = record { bytes = take room (text ++ replicate room 0); size = min (length text) room }

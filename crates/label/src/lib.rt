@@ -12,7 +12,7 @@ ghost use Rattle.label.specs.Pushing.{pushed, written};
 
 // The first `size` bytes are the line.
 pub struct Label {
-    pub bytes: [u8; 96],
+    pub bytes: [u8; Label::ROOM],
     pub size: usize,
 }
 
@@ -20,17 +20,20 @@ fn empty() -> Label
     ensures { λ r. ⌜ r ≡ boxed [] ⌝ }
 {
     Label {
-        bytes: [0; 96],
+        bytes: [0; Label::ROOM],
         size: 0,
     }
 }
 
 impl Label {
+    // The room of a line: no job's line is longer.
+    pub const ROOM: usize = 96;
+
     fn push(self, byte: u8) -> Label
         ensures { λ r. ⌜ r ≡ pushed byte self ⌝ }
     {
         let at = self.size;
-        if 96 <= at {
+        if Label::ROOM <= at {
             return self;
         }
         let mut bytes = self.bytes;
@@ -49,7 +52,7 @@ impl Label {
         let mut at = self.size;
         let mut i = 0;
         while i < text.len() {
-            if 96 <= at {
+            if Label::ROOM <= at {
                 break;
             }
             bytes[at] = text[i];

@@ -1,1 +1,1 @@
-// What a burst of changed cable bits does to a row: definitions and a theorem, no code.
+// What a burst of changed cable bits does to a row, and to the second of two rows: definitions and theorems, no code.

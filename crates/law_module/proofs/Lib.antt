@@ -11,3 +11,6 @@ pub mod Follows
 pub mod Between
 pub mod Own
 pub mod Verdicts
+pub mod Opened
+pub mod Alone
+pub mod Beyond

@@ -6,7 +6,7 @@ use Prim.Native.Nat.{ℕ, zero, suc}
 use native.Mathlib.Omega.{arith}
 use borrow.Author.Tests.{le-leb}
 use Rattle.bits.specs.Bits.{wordBits}
-use Rattle.raster.specs.Table.{meant, rasterOk, totalOf, rowsOf}
+use Rattle.raster.specs.Table.{highest, meant, rasterOk, totalOf, rowsOf}
 use Rattle.raster.proofs.Table.{meant-range, lookedUp-range}
 use Rattle.cable.specs.Words.{unscrambleNext, unscrambleWords}
 use Rattle.cable.proofs.Words.{unscramble-next-range}
@@ -48,7 +48,7 @@ unfolding begun inRange
 begun-in-range s code h = go (beginRefusal s code) refl
   where
     go : (n : ℕ) → beginRefusal s code ≡ n → inRange (begunBy n s code .session) ≡ true
-    go zero e = let r = meant-range code (begin-taken s code e .2) in rw (le-leb 1 (meant code) (r .0), le-leb (meant code) 11 (r .1))
+    go zero e = let r = meant-range code (begin-taken s code e .2) in rw (le-leb 1 (meant code) (r .0), le-leb (meant code) highest (r .1))
     go (suc n) e = h
 
 pub fed-in-range : (s : Session) (ws y c : List ℕ) → inRange s ≡ true → inRange (fed s ws y c .session) ≡ true

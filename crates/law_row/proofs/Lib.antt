@@ -5,3 +5,9 @@ pub mod CorrectedParts
 pub mod Rechecked
 pub mod Again
 pub mod CorrectedRows
+pub mod Tens
+pub mod Made
+pub mod Checked
+pub mod BuiltRow
+pub mod CorrectedRow
+pub mod FoundPacket

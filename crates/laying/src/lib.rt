@@ -16,7 +16,7 @@ fn lay_pair(total: u32, at: usize, word: u16, buffer: &mut [u16])
 fn lay_eav(xyz: u16, buffer: &mut [u16])
     ensures { λ _. ⌜ now (buffer .exit) ≡ eavLaid xyz (now (buffer .entry)) ⌝ }
 {
-    parts::lay(buffer, 0, &[0x3ff, 0x000, 0x000, xyz]);
+    parts::lay(buffer, 0, &stream::trs(xyz));
 }
 
 // What an event writes where the pair that ended has this word and this place in the open row.

@@ -1,6 +1,7 @@
 // Answers requests, one a line (docs/REQUESTS.md). Proved safe, no more.
 use libc::STDIN_FILENO;
-use probe_answers::arg;
+use probe_answers::numbers::arg;
+use probe_answers::numbers::end_line;
 
 // What a hexadecimal digit stands for.
 fn digit_of(byte: u8) -> u32 {
@@ -26,15 +27,16 @@ fn begin(args: &mut [u32], at: usize) -> usize {
     at
 }
 
-// Answers the request whose numbers these are.
+// Answers the request whose numbers these are: by the crate that its number names, or by an empty line.
 fn answer(args: &[u32]) {
     match arg(args, 0) {
-        0x58 | 0x59 | 0x66..=0x6b => probe_channels::answer(args),
+        0x10..=0x43 => probe_words::answer(args),
+        0x50..=0x62 => probe_rows::answer(args),
         0x70..=0x73 => probe_sessions::answer(args),
-        0x74..=0x7a => probe_steps::answer(args),
-        0x80..=0x84 => probe_desks::answer(args),
-        _ => probe_rows::answer(args),
+        0x81..=0x83 => probe_desks::answer(args),
+        _ => {}
     }
+    end_line();
 }
 
 // A byte of a line whose number at a place is being read; answers the place where the next byte goes on.

@@ -15,8 +15,14 @@ use Rattle.raster.specs.declared.Entry.{Entry}
 use Rattle.raster.specs.declared.Kind.{Kind}
 use Rattle.raster.specs.declared.Kind.the-variants.{Progressive, TwoFields}
 use Rattle.raster.specs.declared.Raster.{Raster}
-use Rattle.raster.specs.Table.{table, noEntry, meant, entryOf, rasterOk, rasterAt, noRaster, lookedUp, sameKind, fits, nameFrom, nameOf}
+use Rattle.raster.specs.Table.{table, noEntry, highest, meant, entryOf, rasterOk, rasterAt, noRaster, lookedUp, sameKind, fits, nameFrom, nameOf}
 use Rattle.bits.proofs.Choice.{false-not-true, and-true, if-zero}
+
+-- ---- highest
+
+-- it is the code of the last row
+pub highest-is-last : length table ≡ highest
+highest-is-last = refl
 
 -- ---- meant
 
@@ -24,12 +30,12 @@ pub meant-other : (code : ℕ) → (code ≡ 0 → ⊥) → meant code ≡ code
 meant-other zero h = absurd (h refl)
 meant-other (suc n) h = refl
 
-pub meant-range : (code : ℕ) → rasterOk code ≡ true → (1 ≤ meant code) × (meant code ≤ 11)
+pub meant-range : (code : ℕ) → rasterOk code ≡ true → (1 ≤ meant code) × (meant code ≤ highest)
 meant-range zero h = (omega arith, omega arith)
-meant-range (suc n) h = (omega arith, leb-true (suc n) 11 h)
+meant-range (suc n) h = (omega arith, leb-true (suc n) highest h)
 
 pub meant-ok : (code : ℕ) → rasterOk code ≡ true → rasterOk (meant code) ≡ true
-meant-ok code ok = le-leb (meant code) 11 (meant-range code ok .1)
+meant-ok code ok = le-leb (meant code) highest (meant-range code ok .1)
 
 -- ---- entryOf
 
@@ -75,7 +81,7 @@ lookedUp-zero = refl
 
 pub record InRange (r : Raster) : Type 0 where
   pub code-low : 1 ≤ r .code
-  pub code-high : r .code ≤ 11
+  pub code-high : r .code ≤ highest
   pub unit : r .layout .unit ≡ 20
   pub total-low : 1650 ≤ r .layout .total
   pub total-high : r .layout .total ≤ 4125
@@ -177,13 +183,13 @@ nameFrom-row t a n k c (e ∷ es) h = go (fits t a n k e) refl (nameFrom (suc c)
 
 module _ (t a n : ℕ) (k : Kind) where
   -- a name other than 0 is the code of a row that fits, and so of one with exactly these values
-  pub name-fits : (code : ℕ) → nameOf t a n k ≡ code → (code ≡ 0 → ⊥) → (1 ≤ code) × (code ≤ 11) × (fits t a n k (entryOf code) ≡ true)
+  pub name-fits : (code : ℕ) → nameOf t a n k ≡ code → (code ≡ 0 → ⊥) → (1 ≤ code) × (code ≤ highest) × (fits t a n k (entryOf code) ≡ true)
   unfolding nameOf entryOf
   name-fits code e h =
       let r : Row t a n k 1 table code = subst (Row t a n k 1 table) e (nameFrom-row t a n k 1 table (λ q. h (sym e ∙ q))) in
       (r .low, omega arith, rw (meant-other code h) (r .fit))
 
-  pub row-of-name : (code : ℕ) → nameOf t a n k ≡ code → (code ≡ 0 → ⊥) → (1 ≤ code) × (code ≤ 11) × Has t a n k (entryOf code)
+  pub row-of-name : (code : ℕ) → nameOf t a n k ≡ code → (code ≡ 0 → ⊥) → (1 ≤ code) × (code ≤ highest) × Has t a n k (entryOf code)
   row-of-name code e h = let r = name-fits code e h in (r .0, r .1, fits-has t a n k (entryOf code) (r .2))
 
 abbrev pub nameOfRow : Entry → ℕ
@@ -195,10 +201,10 @@ unfolding entryOf nameOf nameFrom
 name-of-meant code ok =
     let r = meant-range code ok in
     let s : suc (meant code - 1) ≡ meant code = omega arith in
-    eqb→eq _ _ (below (λ i. eqb (nameOfRow (getD table i noEntry)) (suc i)) 11 tt (meant code - 1) (omega arith)) ∙ s
+    eqb→eq _ _ (below (λ i. eqb (nameOfRow (getD table i noEntry)) (suc i)) highest tt (meant code - 1) (omega arith)) ∙ s
 
-pub name-of-row : (code : ℕ) → 1 ≤ code → code ≤ 11 → nameOfRow (entryOf code) ≡ code
-name-of-row code l h = name-of-meant code (le-leb code 11 h) ∙ meant-other code (λ e. omega arith)
+pub name-of-row : (code : ℕ) → 1 ≤ code → code ≤ highest → nameOfRow (entryOf code) ≡ code
+name-of-row code l h = name-of-meant code (le-leb code highest h) ∙ meant-other code (λ e. omega arith)
 
 module _ (t a n : ℕ) (k : Kind) where
   pub name-of-fit : (code : ℕ) → rasterOk code ≡ true → fits t a n k (entryOf code) ≡ true → nameOf t a n k ≡ meant code
@@ -221,4 +227,4 @@ module _ (t a n : ℕ) (k : Kind) where
       go true e h = e refl
       go false e h =
           let r = name-fits t a n k (nameOf t a n k) refl (h refl) in
-          absurd (false-not-true (sym (f (nameOf t a n k) (le-leb (nameOf t a n k) 11 (r .1))) ∙ r .2))
+          absurd (false-not-true (sym (f (nameOf t a n k) (le-leb (nameOf t a n k) highest (r .1))) ∙ r .2))

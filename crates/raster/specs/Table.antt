@@ -49,9 +49,13 @@ meant (suc n) = suc n
 unfoldable pub entryOf : ℕ → Entry
 entryOf code = getD table (meant code - 1) noEntry
 
+-- the highest code, which is that of the last row
+abbrev pub highest : ℕ
+highest = 11
+
 -- "4: raster not 0..11"
 abbrev pub rasterOk : ℕ → Bool
-rasterOk code = leb code 11
+rasterOk code = leb code highest
 
 -- the raster of a code, or refusal 4 with zeros
 abbrev pub rasterAt : ℕ → Entry → Raster

@@ -2,8 +2,11 @@
 ghost use mathlib.Core.Path.{_≡_};
 ghost use Prim.Native.Nat.{_<_};
 ghost use lib.ListN.{getD};
-ghost use Rattle.raster.specs.Table.{fits, lookedUp, meant, nameOf, noEntry, kindNumber, table};
+ghost use Rattle.raster.specs.Table.{fits, highest, lookedUp, meant, nameOf, noEntry, kindNumber, table};
 ghost use Rattle.raster.specs.Lines.{between, lineFacts, vOf, fOf};
+
+// The highest code; the lowest is 1, and 0 stands for one of them.
+pub const HIGHEST: u32 = 11;
 
 pub enum Kind {
     Progressive,
@@ -45,8 +48,8 @@ struct Entry {
     pub kind: Kind,
 }
 
-// Codes 1 to 11.
-const TABLE: [Entry; 11] = [
+// Codes 1 to the highest.
+const TABLE: [Entry; HIGHEST as usize] = [
     Entry {
         total: 1650,
         active: 1280,
@@ -117,7 +120,7 @@ const TABLE: [Entry; 11] = [
 
 // The row at a place of the table.
 fn entry_at(place: usize) -> Entry
-    requires { ⌜ place < 11 ⌝ }
+    requires { ⌜ place < highest ⌝ }
     ensures { λ r. ⌜ r ≡ getD table place noEntry ⌝ }
 {
     let entry = TABLE[place];
@@ -138,7 +141,7 @@ fn meant_code(code: u32) -> u32
 pub fn raster_of(code: u32) -> LookedUp
     ensures { λ r. ⌜ r ≡ lookedUp code ⌝ }
 {
-    if 11 < code {
+    if HIGHEST < code {
         let layout = Layout {
             unit: 0,
             total: 0,
@@ -205,7 +208,7 @@ pub fn name(total: u32, active: u32, rows: u32, kind: Kind) -> u32
     ensures { λ r. ⌜ r ≡ nameOf total active rows kind ⌝ }
 {
     let mut code = 1u32;
-    while code <= 11 {
+    while code <= HIGHEST {
         let entry = entry_at((code - 1) as usize);
         if fits_entry(total, active, rows, kind, entry) {
             return code;

@@ -45,17 +45,13 @@ fn mend_sums(plan: Plan, words: &mut [u16])
 fn lay_codes(plan: Plan, words: &mut [u16])
     ensures { λ _. ⌜ now (words .exit) ≡ withCodes plan (now (words .entry)) ⌝ }
 {
-    parts::lay(words, 0, &[0x3ff, 0x000, 0x000, plan.codes.eav]);
+    parts::lay(words, 0, &stream::trs(plan.codes.eav));
     parts::lay(
         words,
         4,
         parts::part(&[plan.codes.ln0, plan.codes.ln1], 0, plan.places.lines),
     );
-    parts::lay(
-        words,
-        plan.places.sav,
-        &[0x3ff, 0x000, 0x000, plan.codes.sav],
-    );
+    parts::lay(words, plan.places.sav, &stream::trs(plan.codes.sav));
 }
 
 // CRC, where the register carried is known.

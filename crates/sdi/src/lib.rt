@@ -107,10 +107,15 @@ pub use row::Checked;
 // - end: raster, counts and verdict, and a closed session. Refuses 7.
 pub use session::Session;
 
-// Types.
+// Types; what a session holds has ranges, in docs/SESSION.md.
+pub use judging::Track;
+pub use recogniser::Place;
+pub use recogniser::Sight;
+pub use recogniser::Window;
 pub use session::Begun;
 pub use session::Ended;
 pub use session::Fed;
+pub use stepper::State;
 pub use tally::Counts;
 pub use tally::Verdict;
 

@@ -56,11 +56,10 @@ fn start() -> State
         line: 0,
         carry: Carry::Nothing,
     };
-    let counts = Counts { rows: 0, faults: 0 };
     State {
         sight,
         track,
-        counts,
+        counts: Counts::none(),
     }
 }
 
@@ -74,7 +73,7 @@ fn raster_in(running: bool, raster: u32) -> bool
     if raster < 1 {
         return false;
     }
-    raster <= 11
+    raster <= raster::HIGHEST
 }
 
 fn place_in(total: usize, place: Place) -> bool
@@ -260,7 +259,7 @@ impl Session {
             return Ended {
                 refusal: 7,
                 raster: 0,
-                counts: Counts { rows: 0, faults: 0 },
+                counts: Counts::none(),
                 verdict: Verdict::Refused,
                 session: self,
             };

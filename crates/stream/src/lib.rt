@@ -25,11 +25,18 @@ pub struct Faults {
     pub reserved: bool,
 }
 
+// The four words of a timing code.
+pub fn trs(xyz: u16) -> [u16; 4]
+    ensures { λ r. ⌜ r ≡ trs xyz ⌝ }
+{
+    [0x3ff, 0x000, 0x000, xyz]
+}
+
 // Whether the timing code at a place is another than this.
 fn trs_differs(words: &[u16], at: usize, xyz: u16) -> bool
     ensures { λ r. ⌜ r ≡ differ (part at 4 (now (words .entry))) (trs xyz) ⌝ }
 {
-    !parts::same(parts::part(words, at, 4), &[0x3ff, 0x000, 0x000, xyz])
+    !parts::same(parts::part(words, at, 4), &trs(xyz))
 }
 
 // Whether the words at a place, two or fewer, are others than these.
@@ -97,7 +104,7 @@ pub fn register_after(plan: Plan, words: &[u16]) -> u32
 pub fn head_register(plan: Plan, register: u32) -> u32
     ensures { λ r. ⌜ r ≡ crcWords register (headWords plan) ⌝ }
 {
-    let after = crc::step_words(register, &[0x3ff, 0x000, 0x000, plan.codes.eav]);
+    let after = crc::step_words(register, &trs(plan.codes.eav));
     crc::step_words(
         after,
         parts::part(&[plan.codes.ln0, plan.codes.ln1], 0, plan.places.lines),

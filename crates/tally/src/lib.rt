@@ -2,7 +2,7 @@
 use judging::Happening;
 ghost use mathlib.Core.Path.{_≡_};
 ghost use Rattle.judging.specs.Happening.{happenings};
-ghost use Rattle.tally.specs.Tally.{isFault, isRow, label, labelFor, raised, tallied, verdictOf};
+ghost use Rattle.tally.specs.Tally.{isFault, isRow, label, labelFor, noCounts, raised, tallied, verdictOf};
 
 // Rows whose CRC could be judged, and faults.
 pub struct Counts {
@@ -21,6 +21,13 @@ pub enum Verdict {
 
 impl Counts {
     pub const CEILING: u32 = 4294967295;
+
+    // Where every module starts; what a refused call answers.
+    pub fn none() -> Counts
+        ensures { λ r. ⌜ r ≡ noCounts ⌝ }
+    {
+        Counts { rows: 0, faults: 0 }
+    }
 }
 
 // One more, up to the ceiling.

@@ -4,12 +4,12 @@ use Prim.Native.Nat.{ℕ, _≤_}
 use native.Mathlib.Omega.{arith}
 use borrow.Author.Needs.{needs}
 use Rattle.label.specs.declared.Label.{Label}
-use Rattle.label.specs.Label.{boxed}
+use Rattle.label.specs.Label.{boxed, room}
 use Rattle.bench.proofs.lay.Statement.{statement}
 use Rattle.bench.proofs.lay.Tie as tie
 
 -- a line has at most its room
-size-within : (t : List ℕ) (l : Label) → l ≡ boxed t → l .size ≤ 96
+size-within : (t : List ℕ) (l : Label) → l ≡ boxed t → l .size ≤ room
 unfolding boxed
 size-within t l e = rw e (omega arith)
 

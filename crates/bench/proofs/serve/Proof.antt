@@ -5,12 +5,13 @@ use Prim.Native.Nat.{ℕ, _+_, _-_, _≤_, _<_}
 use native.Mathlib.Omega.{arith}
 use lib.ListN.{length, take, drop, length-drop}
 use lib.Seq.{length-take-le}
+use Rattle.label.specs.Label.{room}
 use borrow.Author.Needs.{needs}
 use Rattle.bench.proofs.serve.Statement.{statement}
 use Rattle.bench.proofs.serve.Tie as tie
 
 abbrev Inv-loop : tie.InvT-loop
-Inv-loop bytes y₀ c₀ out₀ desk₀ at₀ laid₀ y c out desk at laid = (length y ≡ length y₀) × (length c ≡ length c₀) × (laid ≤ 4000)
+Inv-loop bytes y₀ c₀ out₀ desk₀ at₀ laid₀ y c out desk at laid = (length y ≡ length y₀) × (length c ≡ length c₀) × (laid + room ≤ 4096)
 
 abbrev μ-loop : tie.MeasureT-loop
 μ-loop bytes y₀ c₀ out₀ desk₀ at₀ laid₀ y c out desk at laid = length bytes - at

@@ -4,6 +4,9 @@ use Rattle.compose.proofs.Laying.{laid-head}
 use Rattle.compose.proofs.lay_head.Statement.{statement}
 use Rattle.compose.proofs.lay_head.Tie as tie
 
+trs-requires : tie.Need-trs-requires
+trs-requires c κs = search needs
+
 slice-aggregate-lay : tie.Need-slice-aggregate-lay
 slice-aggregate-lay c = search needs
 
@@ -25,11 +28,12 @@ returns c =
     let test = checks .before .before in
     let lines = test .before .before .before in
     let eav = lines .before .before .before .before in
-    let start = eav .before .before .before .before .before .before in
+    let start = eav .before .before .before .before .before .before .before in
     rw (
       checks .lay-pair2 .ensures,
       lines .lay-pair .ensures,
       eav .lay .ensures,
+      eav .before .before .trs .ensures,
       not-true (start .args .known) (test .if1 .taken),
       laid-head (start .args .plan) (start .pre),
     )
@@ -53,13 +57,14 @@ returns-2 c =
     let test = made .before .before in
     let lines = test .before .before .before in
     let eav = lines .before .before .before .before in
-    let start = eav .before .before .before .before .before .before in
+    let start = eav .before .before .before .before .before .before .before in
     rw (
       checks .lay-pair3 .ensures,
       made .words-of .ensures,
       made .before .head-register .ensures,
       lines .lay-pair .ensures,
       eav .lay .ensures,
+      eav .before .before .trs .ensures,
       not-false (start .args .known) (test .if1 .left),
       laid-head (start .args .plan) (start .pre),
     )
@@ -68,6 +73,7 @@ pub lay-head-spec : {M : Type 1} → statement M
 lay-head-spec =
     tie.close
     (tie.spec
+    trs-requires
     slice-aggregate-lay
     lay-requires
     lay-pair-requires

@@ -19,6 +19,9 @@ sub-fill c = search needs
 fill-requires : tie.Need-fill-requires
 fill-requires c κs = search needs
 
+trs-requires : tie.Need-trs-requires
+trs-requires c κs = search needs
+
 slice-aggregate-lay : tie.Need-slice-aggregate-lay
 slice-aggregate-lay c = search needs
 
@@ -35,12 +38,12 @@ returns : tie.Need-returns
 returns c =
     let active = c .before .before in
     let sav = active .before .before .before .before in
-    let rest = sav .before .before .before .before .before in
+    let rest = sav .before .before .before .before .before .before in
     let words = rest .before .before .before .before .before .before in
     let head = words .before .before .before .before in
     let start = head .before .before .before .before .before in
     let at = start .args in
-    rw (active .lay3 .ensures, sav .lay2 .ensures, rest .fill .ensures, words .lay .ensures, head .lay-head .ensures)
+    rw (active .lay3 .ensures, sav .lay2 .ensures, sav .before .before .trs .ensures, rest .fill .ensures, words .lay .ensures, head .lay-head .ensures)
     (sym (laid-streamOf (at .plan) (start .pre .0) (at .known) (at .register) (at .blank) (at .active .now) (at .blanking .now) (at .out .now) (start .pre .1)))
 
 pub lay-stream-spec : {M : Type 1} → statement M
@@ -52,6 +55,7 @@ lay-stream-spec =
     add-fill
     sub-fill
     fill-requires
+    trs-requires
     slice-aggregate-lay
     lay-requires-2
     lay-requires-3

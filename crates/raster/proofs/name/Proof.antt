@@ -3,7 +3,7 @@ use Prim.Native.Nat.{suc, _+_, _-_, _≤_}
 use native.Mathlib.Omega.{arith}
 use lib.ListN.{drop}
 use borrow.Author.Needs.{needs}
-use Rattle.raster.specs.Table.{table, nameFrom, nameOf}
+use Rattle.raster.specs.Table.{table, highest, nameFrom, nameOf}
 use Rattle.raster.proofs.Table.{nameFrom-step, nameFrom-stop, nameFrom-end}
 use Rattle.raster.proofs.name.Statement.{statement}
 use Rattle.raster.proofs.name.Tie as tie
@@ -11,11 +11,11 @@ use Rattle.raster.proofs.name.Tie as tie
 abbrev Inv-loop : tie.InvT-loop
 Inv-loop total active rows kind code₀ code =
     (1 ≤ code)
-    × (code ≤ 12)
+    × (code ≤ highest + 1)
     × (nameFrom code (drop (code - 1) table) total active rows kind ≡ nameOf total active rows kind)
 
 abbrev μ-loop : tie.MeasureT-loop
-μ-loop total active rows kind code₀ code = 12 - code
+μ-loop total active rows kind code₀ code = highest + 1 - code
 
 loop-holds : tie.Need-loop-holds Inv-loop μ-loop
 unfolding nameOf

@@ -3,6 +3,9 @@ use borrow.Author.Needs.{needs}
 use Rattle.repair.proofs.lay_codes.Statement.{statement}
 use Rattle.repair.proofs.lay_codes.Tie as tie
 
+trs-requires : tie.Need-trs-requires
+trs-requires c κs = search needs
+
 slice-aggregate-lay : tie.Need-slice-aggregate-lay
 slice-aggregate-lay c = search needs
 
@@ -18,6 +21,9 @@ part-requires c κs = search needs
 lay-requires-2 : tie.Need-lay-requires-2
 lay-requires-2 c κs = search needs
 
+trs-requires-2 : tie.Need-trs-requires-2
+trs-requires-2 c κs = search needs
+
 slice-aggregate-lay-2 : tie.Need-slice-aggregate-lay-2
 slice-aggregate-lay-2 c = search needs
 
@@ -30,22 +36,29 @@ same-length c = search needs
 returns : tie.Need-returns
 unfolding withCodes
 returns c =
+    let sav = c .before .before in
+    let line = sav .before .before .before .before .before .before in
+    let eav = line .before .before .before .before .before .before in
     rw (
-      c .before .before .lay3 .ensures,
-      c .before .before .before .before .before .before .before .lay2 .ensures,
-      c .before .before .before .before .before .before .before .before .part .ensures,
-      c .before .before .before .before .before .before .before .before .before .before .before .before .before .lay .ensures,
+      sav .lay3 .ensures,
+      sav .before .before .trs2 .ensures,
+      line .lay2 .ensures,
+      line .before .part .ensures,
+      eav .lay .ensures,
+      eav .before .before .trs .ensures,
     )
 
 pub lay-codes-spec : {M : Type 1} → statement M
 lay-codes-spec =
     tie.close
     (tie.spec
+    trs-requires
     slice-aggregate-lay
     lay-requires
     slice-aggregate-part
     part-requires
     lay-requires-2
+    trs-requires-2
     slice-aggregate-lay-2
     lay-requires-3
     same-length

@@ -9,12 +9,16 @@ use Rattle.session.proofs.Session.end.Tie as tie
 is-in-range-requires : tie.Need-is-in-range-requires
 is-in-range-requires c κs = search needs
 
+none-requires : tie.Need-none-requires
+none-requires c κs = search needs
+
 returns : tie.Need-returns
 unfolding endRefusal ended said
 returns c =
-    let ranged = c .before in
-    let idle = not-or-not (ranged .before .before .args .self .running) (ranged .is-in-range .result) true (c .if1 .taken) in
-    (rw (← ranged .is-in-range .ensures, idle), rw (← ranged .is-in-range .ensures, idle))
+    let test = c .before in
+    let ranged = test .before in
+    let idle = not-or-not (ranged .before .before .args .self .running) (ranged .is-in-range .result) true (test .if1 .taken) in
+    (rw (← ranged .is-in-range .ensures, idle, c .none .ensures), rw (← ranged .is-in-range .ensures, idle))
 
 raster-of-requires : tie.Need-raster-of-requires
 raster-of-requires c κs = search needs
@@ -43,6 +47,7 @@ end-spec =
     tie.close
     (tie.spec
     is-in-range-requires
+    none-requires
     returns
     raster-of-requires
     verdict-of-requires

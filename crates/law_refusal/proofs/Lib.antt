@@ -1,0 +1,4 @@
+pub mod Decided
+pub mod Answers
+pub mod Rows
+pub mod Files

@@ -1,9 +1,0 @@
-pub mod Trips
-pub mod Tens
-pub mod Made
-pub mod Checked
-pub mod BuiltRow
-pub mod CorrectedRow
-pub mod FoundPacket
-pub mod Channels
-pub mod StruckRows

@@ -1,3 +1,0 @@
-// What clients of a module session can conclude from its contracts alone.
-pub mod modules;
-pub mod rows;

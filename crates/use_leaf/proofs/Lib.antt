@@ -1,0 +1,3 @@
+pub mod CodedTwice
+pub mod CodedRefused
+pub mod ThereAndBack

@@ -1,0 +1,5 @@
+pub mod PacketsRefused
+pub mod RowsRefused
+pub mod Parting
+pub mod Received
+pub mod TwoRows

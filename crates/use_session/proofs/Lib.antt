@@ -1,0 +1,4 @@
+pub mod CallsRefused
+pub mod Benches
+pub mod Cut
+pub mod Held

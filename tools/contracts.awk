@@ -3,7 +3,7 @@ function error(text) { print "error: " text >"/dev/stderr"; bad = 1 }
 FNR == 1 { input++ }
 input == 1 { edit = $3; sub(/.*\//, "", edit); ruled[$1] = ruled[$1] (ruled[$1] == "" ? "" : "; ") $2 ": `" edit "`"; edits[$1]++; next }
 input == 2 { if (!($2 in twice)) twice[$2] = $1; next }
-input == 3 { functions[++count] = $2; layer[count] = $1; defined[$2] = $3; if ($4 != "") error($2 ": " $4); next }
+input == 3 { functions[++count] = $2; layer[count] = $1; defined[$2] = $3; crate = $2; sub(/::.*/, "", crate); code[crate] = 1; if ($4 != "") error($2 ": " $4); next }
 {
     calls++
     heading[calls] = $1
@@ -43,6 +43,11 @@ END {
             before = layer[i]
         }
         printf "| `%s` | %s | %s |\n", name, defined[name], ruled[name]
+    }
+    for (name in ruled) {
+        crate = name
+        sub(/::.*/, "", crate)
+        if (crate in code && !(name in defined)) error("a must-fail edit names " name ", which is no public function")
     }
     exit bad
 }

@@ -69,16 +69,6 @@ pub fn unscramble(history: u16, words: &[u16], output: &mut [u16]) -> Result<u16
     Ok(next_history(&w))
 }
 
-/// Scrambles one word; the low ten bits of history and word count.
-pub fn scramble_word(history: u16, word: u16) -> u16 {
-    word_of(&scrambled(history, &[word])[HISTORY_BITS..])
-}
-
-/// Unscrambles one word; the low ten bits of history and word count.
-pub fn unscramble_word(history: u16, word: u16) -> u16 {
-    word_of(&unscrambled(&cable_bits(history, &[word])))
-}
-
 /// "A sync is 20 ones then 40 zeros."
 pub fn is_sync(bits: &[bool]) -> bool {
     let (ones, zeros) = bits.split_at(SYNC_ONES);

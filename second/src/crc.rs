@@ -16,7 +16,7 @@ fn after_bit(register: u32, bit: bool) -> u32 {
 }
 
 /// The register after a word; of the word the low ten bits count.
-pub fn after_word(register: u32, word: u16) -> u32 {
+fn after_word(register: u32, word: u16) -> u32 {
     bits_of(word).into_iter().fold(register, after_bit)
 }
 
@@ -29,11 +29,6 @@ pub fn after_words(register: u32, words: &[u16]) -> u32 {
 
 /// "The carry is each channel's CRC register after a row's active words": that of Y, then that of C.
 pub type Carry = [u32; 2];
-
-/// The registers after the words of both channels, "from zero, each channel alone".
-pub fn of_both([y, c]: [&[u16]; 2]) -> Carry {
-    [after_words(0, y), after_words(0, c)]
-}
 
 /// "1 and the registers of Y and C, or `0 0 0` for none"
 pub fn carry_numbers(carry: Option<Carry>) -> [u32; 3] {
@@ -86,15 +81,5 @@ mod tests {
     fn number_8_the_one_word_200() {
         assert_eq!(checked_after_words(0, &[0x200]), Ok(0x23000));
         assert_eq!(crc_words(0x23000), Ok((0x200, 0x118)));
-    }
-
-    #[test]
-    fn channels_of_different_length_are_each_alone() {
-        assert_eq!(of_both([&[0x200], &[]]), [0x23000, 0]);
-        let words = [0x3ff, 0x200, 0x155];
-        for count in 0..=words.len() {
-            let after = after_words(0, &words[..count]);
-            assert_eq!(of_both([&words[..count], &[0x600]]), [after, 0x23000]);
-        }
     }
 }

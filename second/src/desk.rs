@@ -4,7 +4,7 @@ mod outcome;
 mod reader;
 
 pub use outcome::{Done, Outcome};
-pub use reader::{Piece, Reader, Stage, STAGES};
+pub use reader::{Piece, Reader, Stage};
 
 use crate::raster::TABLE;
 use crate::refusal::{refuse, Refusal};
@@ -21,12 +21,13 @@ pub struct Desk {
 }
 
 impl Desk {
-    pub fn of(reader: Reader, numbers: Numbers) -> Self {
+    /// The desk with another session.
+    pub fn with_session(self, numbers: Numbers) -> Self {
         let session = numbers.session().ok();
         Self {
-            reader,
             running: session.filter(|_| numbers.open),
             idle: numbers,
+            ..self
         }
     }
 
@@ -119,7 +120,7 @@ impl Desk {
 }
 
 /// "1 where a buffer has fewer than 4,125 words, whatever the raster": T of the longest row.
-fn longest_row() -> usize {
+pub fn longest_row() -> usize {
     TABLE
         .map(|raster| raster.total)
         .into_iter()

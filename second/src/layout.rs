@@ -1,7 +1,6 @@
 //! Where a row's parts stand, and what raster and line say of them:
 //! "A row of T pairs: EAV 4, LN 2, CRC 2, blanking T-A-12, SAV 4, active A."
 
-use crate::crc::after_words;
 use crate::raster::{raster_with_line, v_and_f, Raster};
 use crate::refusal::Refusal;
 use crate::timing::{encode_line, xyz};
@@ -67,12 +66,6 @@ impl Layout {
 
     pub fn line_words(&self) -> [u16; 2] {
         encode_line(self.line).into()
-    }
-
-    /// The CRC register after the EAV and line number words as they should be, from a register.
-    pub fn start_register(&self, register: u32) -> u32 {
-        let register = after_words(register, &self.eav_words());
-        after_words(register, &self.line_words())
     }
 
     /// "a timing code, line number, CRC [..] to be made would be a reserved code"; the CRC words, where made, are given.

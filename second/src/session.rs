@@ -1,13 +1,9 @@
 //! A module session: "Begin (raster), feed (words), end (verdict)."
 
-mod happening;
 mod module;
 mod numbers;
-mod sight;
 
-pub use happening::{counts_after, happen, Happening, Track};
 pub use numbers::{last_of_bits, Numbers};
-pub use sight::{last_words, lay_event, Event, Sight, EVENTS};
 
 use crate::raster::raster_of;
 use crate::refusal::{refuse, Refusal};

@@ -7,7 +7,6 @@ mod modules;
 mod packets;
 mod refused;
 mod row_ends;
-mod session_parts;
 mod sessions;
 mod wiped;
 
@@ -33,11 +32,8 @@ pub fn all() -> Vec<Vector> {
         line_numbers(),
         cable(),
         crc(),
-        nine_bits(),
         word_limits(),
         row_limits(),
-        carries(),
-        laid_words(),
         rasters(),
         places(),
         blanked(),
@@ -50,7 +46,6 @@ pub fn all() -> Vec<Vector> {
         wiped::all(),
         refused::all(),
         sessions::all(),
-        session_parts::all(),
         desks::all(),
         row_ends::all(),
         modules::all(),
@@ -90,67 +85,35 @@ fn line_numbers() -> Vec<Vector> {
 fn cable() -> Vec<Vector> {
     vec![
         vector(&[SCRAMBLE, 0, 1, 0x001, 1, 0], &[0, 0x21f, 1, 0x21f]),
-        vector(&[SCRAMBLE_WORD, 0, 0x001], &[0x21f]),
         vector(
             &[UNSCRAMBLE, 0, 2, 0x001, 0x000, 2, 0, 0],
             &[0, 0x000, 2, 0x263, 0x001],
         ),
-        vector(&[UNSCRAMBLE_WORD, 0, 0x001], &[0x263]),
-        vector(&[UNSCRAMBLE_WORD, 0x001, 0x000], &[0x001]),
+        vector(&[UNSCRAMBLE, 0x001, 1, 0x000, 1, 0], &[0, 0x000, 1, 0x001]),
     ]
 }
 
 /// "(7) CRC of no words: 200 200; (8) CRC of the one word 200: register 23000, words 200 118".
 fn crc() -> Vec<Vector> {
     vec![
-        vector(&[CRC_CHECKED, 0, 0], &[0, 0]),
-        vector(&[CRC_AFTER_WORDS, 0, 0], &[0]),
+        vector(&[CRC_AFTER_WORDS, 0, 0], &[0, 0]),
         vector(&[CRC_WORDS, 0], &[0, 0x200, 0x200]),
-        vector(&[CRC_AFTER_WORD, 0, 0x200], &[0x23000]),
-        vector(&[CRC_CHECKED, 0, 1, 0x200], &[0, 0x23000]),
-        vector(&[CRC_AFTER_WORDS, 0, 1, 0x200], &[0x23000]),
+        vector(&[CRC_AFTER_WORDS, 0, 1, 0x200], &[0, 0x23000]),
         vector(&[CRC_WORDS, 0x23000], &[0, 0x200, 0x118]),
-        vector(&[CRC_OF_BOTH, 0, 0], &[0, 0]),
-        vector(&[CRC_OF_BOTH, 1, 0x200, 0], &[0x23000, 0]),
-        vector(&[CRC_OF_BOTH, 0, 1, 0x600], &[0, 0x23000]),
-        vector(&[CRC_OF_BOTH, 1, 0x3ff, 1, 0x200], &[0x3df08, 0x23000]),
         // Words of zeros leave a register of zeros.
-        vector(
-            &[CRC_OF_BOTH, 3, 0, 0, 0x200, 2, 0, 0x3ff],
-            &[0x23000, 0x3df08],
-        ),
-        vector(
-            &[CRC_OF_BOTH, 2, 0, 0x200, 5, 0, 0, 0, 0, 0x3ff],
-            &[0x23000, 0x3df08],
-        ),
+        vector(&[CRC_AFTER_WORDS, 0, 3, 0, 0, 0x200], &[0, 0x23000]),
+        vector(&[CRC_AFTER_WORDS, 0, 5, 0, 0, 0, 0, 0x3ff], &[0, 0x3df08]),
     ]
-}
-
-/// The audio DIDs as the data sheets print them (000:1911-1919, 002:100, 003:2137-2141).
-const AUDIO_DIDS: [u16; 28] = [
-    0x2ff, 0x1fd, 0x1fb, 0x2f9, 0x1fe, 0x2fc, 0x2fa, 0x1f8, 0x1ef, 0x2ee, 0x2ed, 0x1ec, 0x2e7,
-    0x1e6, 0x1e5, 0x2e4, 0x1e3, 0x2e2, 0x2e1, 0x1e0, 0x1a7, 0x2a6, 0x2a5, 0x1a4, 0x2a3, 0x1a2,
-    0x1a1, 0x2a0,
-];
-
-/// "bit 9 is the inverse of bit 8", asked for with a wrong bit 9.
-fn nine_bits() -> Vec<Vector> {
-    AUDIO_DIDS
-        .map(u32::from)
-        .map(|word| vector(&[WITH_BIT_NINE, word ^ 0x200], &[word]))
-        .into()
 }
 
 /// "word 3FF passes, 400 gives 3", wherever a word or a history is taken; a carry's limit is 3FFFF.
 /// What 3FF gives where it passes is worked by hand.
 fn word_limits() -> Vec<Vector> {
     vec![
-        vector(&[ALL_WORDS, 1, 0x3ff], &[1]),
-        vector(&[ALL_WORDS, 1, 0x400], &[0]),
-        vector(&[CRC_CHECKED, 0, 1, 0x3ff], &[0, 0x3df08]),
-        vector(&[CRC_CHECKED, 0, 1, 0x400], &[3, 0]),
-        vector(&[CRC_CHECKED, 0x3ffff, 0], &[0, 0x3ffff]),
-        vector(&[CRC_CHECKED, 0x40000, 0], &[3, 0]),
+        vector(&[CRC_AFTER_WORDS, 0, 1, 0x3ff], &[0, 0x3df08]),
+        vector(&[CRC_AFTER_WORDS, 0, 1, 0x400], &[3, 0]),
+        vector(&[CRC_AFTER_WORDS, 0x3ffff, 0], &[0, 0x3ffff]),
+        vector(&[CRC_AFTER_WORDS, 0x40000, 0], &[3, 0]),
         vector(&[CRC_WORDS, 0x3ffff], &[0, 0x1ff, 0x1ff]),
         vector(&[CRC_WORDS, 0x40000], &[3, 0, 0]),
         vector(&[SCRAMBLE, 0x3ff, 0, 0], &[0, 0x3ff, 0]),
@@ -169,42 +132,6 @@ fn word_limits() -> Vec<Vector> {
         vector(&[READ_LINE, 1, 0x3ff, 0x3ff], &[0, 0]),
         vector(&[READ_LINE, 1, 0x400, 0x200], &[3, 0]),
         vector(&[READ_LINE, 1, 0x204, 0x400], &[3, 0]),
-    ]
-}
-
-/// What a carry says, and "a carry above 3FFFF".
-fn carries() -> Vec<Vector> {
-    let carries = [
-        ([0, 0, 0], 1),
-        ([1, 0, 0], 1),
-        ([1, 0x3ffff, 0x3ffff], 1),
-        ([1, 0x40000, 0], 0),
-        ([1, 0, 0x40000], 0),
-        ([1, 0xffff_ffff, 0xffff_ffff], 0),
-    ];
-    carries
-        .into_iter()
-        .flat_map(|(carry, in_range)| {
-            let [known, y, c] = carry;
-            [
-                vector(&[CARRY_SAYS, known, y, c], &carry),
-                vector(&[IS_CARRY, known, y, c], &[in_range]),
-            ]
-        })
-        .collect()
-}
-
-/// A word laid so many times, and words sought for "000-003, 3FC-3FF": the whole number is compared.
-fn laid_words() -> Vec<Vector> {
-    vec![
-        vector(&[LAY_TIMES, 4, 1, 2, 3, 4, 1, 2, 9], &[4, 1, 9, 9, 4]),
-        vector(&[LAY_TIMES, 2, 1, 2, 1, 0xffff_ffff, 9], &[2, 1, 9]),
-        vector(&[LAY_TIMES, 2, 1, 2, 2, 1, 9], &[2, 1, 2]),
-        vector(&[LAY_TIMES, 2, 1, 2, 0, 0, 9], &[2, 1, 2]),
-        vector(&[ANY_RESERVED, 0], &[0]),
-        vector(&[ANY_RESERVED, 4, 0x004, 0x3fb, 0x400, 0xffff], &[0]),
-        vector(&[ANY_RESERVED, 2, 0x004, 0x003], &[1]),
-        vector(&[ANY_RESERVED, 2, 0x3fc, 0x3fb], &[1]),
     ]
 }
 

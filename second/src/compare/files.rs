@@ -2,8 +2,9 @@
 
 use super::budget::Budget;
 use super::command::Command;
-use super::file_shrinking::Shrinking;
+use super::parts::Parts;
 use super::progress::Progress;
+use super::shrinking::Shrinking;
 use crate::bench::bench;
 use crate::Failure;
 use std::fs;
@@ -116,7 +117,7 @@ fn shrink(smallest: &mut (Vec<u8>, Outputs), command: &Command) -> String {
     let mut budget = Budget::to_shrink();
     let mut progress = Progress::new();
     let first = smallest.0.clone();
-    let differs = |bytes: &[u8]| {
+    let mut differs = |bytes: &[u8]| {
         budget.spend(bytes.len())?;
         progress.tell(|| format!("shrinking, run {} on {} bytes", budget.runs, bytes.len()));
         let outputs = Outputs::of(bytes, command)?;
@@ -126,8 +127,44 @@ fn shrink(smallest: &mut (Vec<u8>, Outputs), command: &Command) -> String {
         }
         Ok(differ)
     };
-    let ended = Shrinking::of(&first, differs).shrink();
+    let ended = shrink_file(&first, &mut differs);
     budget.note(ended)
+}
+
+/// By its jobs; of a file that is refused the jobs need not stay whole, so it is shrunk as bytes too.
+fn shrink_file<Error>(
+    file: &[u8],
+    differs: &mut impl FnMut(&[u8]) -> Result<bool, Error>,
+) -> Result<(), Error> {
+    let mut smallest = file.to_vec();
+    loop {
+        let before = smallest.clone();
+        for parts_of in [Parts::of_file, Parts::of_bytes] {
+            let parts = parts_of(&smallest);
+            if parts.jobs() == 0 && !is_bad(&smallest) {
+                continue;
+            }
+            let find = |puts: &[Vec<u8>]| {
+                for (place, put) in puts.iter().enumerate() {
+                    if differs(put)? {
+                        smallest = put.clone();
+                        return Ok(Some(place));
+                    }
+                }
+                Ok(None)
+            };
+            Shrinking::of(parts, find).shrink()?;
+        }
+        if smallest == before {
+            return Ok(());
+        }
+    }
+}
+
+fn is_bad(bytes: &[u8]) -> bool {
+    own_lines(bytes)
+        .split(|&byte| byte == b'\n')
+        .any(|line| line.starts_with(b"bad file "))
 }
 
 /// In hexadecimal, or where it is written to.

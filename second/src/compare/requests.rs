@@ -3,8 +3,8 @@
 use super::answers::{Difference, Judge};
 use super::budget::Budget;
 use super::command::Command;
-use super::request_parts::Parts;
-use super::request_shrinking::Shrinking;
+use super::parts::Parts;
+use super::shrinking::Shrinking;
 use crate::requests::{answer, format_line};
 use crate::Failure;
 
@@ -51,8 +51,10 @@ fn shrunk(first: Shown, command: &Command) -> Result<(Shown, String), Failure> {
         return Ok((first, "not shrunk: its form is not known".to_string()));
     };
     let mut smallest = first;
-    let find = |lines: &[String]| {
-        let difference = judge.first_difference(lines)?;
+    let find = |puts: &[Vec<u8>]| {
+        let lines = puts.iter().map(|put| String::from_utf8_lossy(put));
+        let lines: Vec<String> = lines.map(|line| line.into_owned()).collect();
+        let difference = judge.first_difference(&lines)?;
         Ok(difference.map(|Difference { place, theirs }| {
             let line = lines[place].clone();
             smallest = Shown { line, theirs };

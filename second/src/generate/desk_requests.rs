@@ -1,6 +1,6 @@
 //! Requests for the functions of a bench file.
 
-use super::desks::{self, buffers, lent, shorten, Lent};
+use super::desks::{buffers, lent, shorten, Lent};
 use super::files::{short_file, tag};
 use super::long_sections::{across, marked, CODE, FEW, RUN};
 use super::row_requests::both;
@@ -17,15 +17,6 @@ const MOST_BYTES: usize = 14_000;
 const MOST_WORDS: usize = 6900;
 
 impl Generator {
-    pub(super) fn read_bytes(&mut self) -> Request {
-        let most = self.random.pick(&[20, 20, 20, 20, 20, 20, 20, 300]);
-        let mut file = any_file(&mut self.random, most);
-        if file.is_empty() {
-            file.push(0);
-        }
-        request(&[&[READ_BYTES], &byte_list(&file)])
-    }
-
     pub(super) fn desk(&mut self) -> Request {
         let random = &mut self.random;
         let (file, lengths) = match random.below(25) {
@@ -43,29 +34,13 @@ impl Generator {
 
     pub(super) fn take(&mut self) -> Request {
         let Lent {
-            reader,
-            numbers,
+            lengths,
             bytes,
+            numbers,
             buffers,
         } = lent(&mut self.random);
-        let desk = [&reader.numbers()[..], &numbers.list()].concat();
-        request(&[&[TAKE], &desk, &byte_list(&bytes), &both(&buffers)])
-    }
-
-    /// Words of any number below 2^16, the last of them now and then without its high byte.
-    pub(super) fn read_words(&mut self) -> Request {
-        let random = &mut self.random;
-        let count = lists::length(random);
-        let reader = desks::reader(random, count as u32);
-        let mut bytes: Vec<u8> = (0..count)
-            .flat_map(|_| lists::any_word(random).to_le_bytes())
-            .collect();
-        if random.one_in(3) {
-            bytes.pop();
-        }
-        let output = lists::output(random, count);
-        let lent = [byte_list(&bytes), list(&output)].concat();
-        request(&[&[READ_WORDS], &reader.numbers(), &lent])
+        let taken = [list(&lengths), byte_list(&bytes)].concat();
+        request(&[&[TAKE], &taken, &numbers.list(), &both(&buffers)])
     }
 
     pub(super) fn outcome_line(&mut self) -> Request {

@@ -1,23 +1,30 @@
-//! How far desks have read, the sessions that they have, and what they are lent.
+//! Takes of desks that have read so far and get another session.
 
 use super::files::{short_file, tag};
 use super::long_sections::length;
 use super::session_requests::{any_feed, Feed};
 use super::{code_feeds, lists, sessions, signals};
-use crate::desk::{Desk, Reader, Stage, STAGES};
+use crate::desk::{longest_row, Desk, Stage};
+use crate::job::Job;
 use crate::random::Random;
 use crate::session::Numbers;
 
-/// What a take gets.
+/// What a take gets, and the bytes that were taken before.
 pub struct Lent {
-    pub reader: Reader,
-    pub numbers: Numbers,
+    /// How many bytes each take before is lent.
+    pub lengths: Vec<u16>,
     pub bytes: Vec<u8>,
+    pub numbers: Numbers,
     pub buffers: [Vec<u16>; 2],
 }
 
-/// "fewer than 4,125 words" are too few.
-const ENOUGH: usize = 4125;
+/// How far a desk has read.
+struct Reached {
+    place: usize,
+    stage: Stage,
+    in_words: bool,
+    numbers: Numbers,
+}
 
 pub fn lent(random: &mut Random) -> Lent {
     let mut lent = if random.bit() {
@@ -25,14 +32,6 @@ pub fn lent(random: &mut Random) -> Lent {
     } else {
         in_a_file(random)
     };
-    if lent.reader.stage == Stage::Wipe && random.one_in(3) {
-        lent.reader.raster = random.below(0x100) as u8;
-    }
-    if !lent.reader.is_in_words() {
-        lent.numbers = any_session(random);
-    } else if random.one_in(8) {
-        lent.numbers = refused_session(random);
-    }
     if random.one_in(10) {
         shorten(random, &mut lent.buffers);
     }
@@ -41,44 +40,84 @@ pub fn lent(random: &mut Random) -> Lent {
 
 /// A file that was read to some byte, each stage as often where it comes at all, and its other bytes, or some of them.
 fn in_a_file(random: &mut Random) -> Lent {
-    let file = short_file(random, 30);
-    let mut buffers = buffers(random);
-    let mut read = readings(&file, &mut buffers);
-    let come = |stage: &Stage| read.iter().any(|(desk, _)| desk.reader.stage == *stage);
-    let stages: Vec<Stage> = STAGES.into_iter().filter(come).collect();
+    let mut bytes = short_file(random, 30);
+    let mut reached = readings(&bytes);
+    let mut stages: Vec<Stage> = Vec::new();
+    for one in &reached {
+        if !stages.contains(&one.stage) {
+            stages.push(one.stage);
+        }
+    }
     let wanted = random.pick(&stages);
-    read.retain(|(desk, _)| desk.reader.stage == wanted);
-    let (last, any) = (read.len() - 1, random.place(read.len()));
-    let (desk, place) = read.swap_remove(random.pick(&[last, any]));
-    let mut bytes = file[place..].to_vec();
+    reached.retain(|one| one.stage == wanted);
+    let (last, any) = (reached.len() - 1, random.place(reached.len()));
+    let reached = &reached[random.pick(&[last, any])];
+    let lengths = takes_to(random, &bytes, reached.place);
     if random.one_in(4) {
-        bytes.truncate(random.place(bytes.len() + 1));
+        let left = bytes.len() - reached.place;
+        bytes.truncate(reached.place + random.place(left + 1));
     }
     if random.one_in(6) {
         let any = random.below(0x100) as u8;
-        bytes.iter_mut().take(1).for_each(|byte| *byte = any);
+        bytes[reached.place..]
+            .iter_mut()
+            .take(1)
+            .for_each(|byte| *byte = any);
     }
     Lent {
-        numbers: desk.numbers(),
-        reader: desk.reader,
+        lengths,
         bytes,
-        buffers,
+        numbers: session(random, reached),
+        buffers: buffers(random),
     }
 }
 
-/// The desk after each byte of a file, with how many have come: "Of a count no byte has come."
-fn readings(file: &[u8], buffers: &mut [Vec<u16>; 2]) -> Vec<(Desk, usize)> {
+/// How far a desk has read after each byte of a file.
+fn readings(file: &[u8]) -> Vec<Reached> {
+    let [mut y, mut c] = [(); 2].map(|()| vec![0; longest_row()]);
     let mut desk = Desk::default();
-    let mut read = vec![(Desk::default(), 0)];
-    for (place, &byte) in file.iter().enumerate() {
-        let [y, c] = buffers.each_mut().map(Vec::as_mut_slice);
-        let taken = desk.take(&[byte], &mut [y, c]);
-        taken.expect("nothing is refused");
-        if desk.reader.count.is_empty() {
-            read.push((Desk::of(desk.reader.clone(), desk.numbers()), place + 1));
+    let places = 0..=file.len();
+    let readings = places.map(|place| {
+        let come = &file[place.saturating_sub(1)..place];
+        desk.take(come, &mut [&mut y, &mut c])
+            .expect("nothing is refused");
+        Reached {
+            place,
+            stage: desk.reader.stage,
+            in_words: desk.reader.is_in_words(),
+            numbers: desk.numbers(),
         }
+    });
+    readings.collect()
+}
+
+/// The desk's own session where words are read, or one that is refused; else any at all.
+fn session(random: &mut Random, reached: &Reached) -> Numbers {
+    if reached.in_words && !random.one_in(8) {
+        return reached.numbers;
     }
-    read
+    match random.below(4) {
+        0 if !reached.in_words => Numbers::default(),
+        1 if !reached.in_words => sessions::open(random),
+        0 | 2 => sessions::closed(random),
+        _ => sessions::out_of_range(random),
+    }
+}
+
+/// Takes of all bytes up to a place, cut anywhere; a take ends with a job.
+fn takes_to(random: &mut Random, file: &[u8], place: usize) -> Vec<u16> {
+    let [mut y, mut c] = [(); 2].map(|()| vec![0; longest_row()]);
+    let mut desk = Desk::default();
+    let mut lengths = Vec::new();
+    let mut left = &file[..place];
+    while !left.is_empty() {
+        let any = random.place(left.len() + 1);
+        let length = random.pick(&[left.len(), left.len(), any]);
+        let taken = desk.take(&left[..length], &mut [&mut y, &mut c]);
+        left = &left[taken.expect("nothing is refused").0..];
+        lengths.push(length as u16);
+    }
+    lengths
 }
 
 /// A session in the middle of a row, its words as a job's, which ends with them, before them or later.
@@ -96,30 +135,59 @@ fn in_a_job(random: &mut Random) -> Lent {
     if random.one_in(6) {
         lists::damage(random, &mut words);
     }
-    let count = words.len() as u32;
-    let any = random.below(count + 1);
-    let count = random.pick(&[count, count, count, count + 1, any, u32::MAX]);
-    let mut bytes = count.to_le_bytes().to_vec();
-    bytes.extend(words.iter().flat_map(|word| word.to_le_bytes()));
-    let mut reader = before_words(random, &numbers);
-    // None of the count, all of it, or the first word's low byte too.
-    let read = random.pick(&[0, 4, 4, 5, 5]);
-    if count > 0 && bytes.len() >= read {
-        bytes.drain(..read).for_each(|byte| drop(reader.take(byte)));
-    }
-    if random.one_in(3) {
-        bytes.extend(short_file(random, 10));
-    }
+    let (bytes, place) = job_of(random, numbers.raster, &words);
     for buffer in &mut buffers {
-        let length = ENOUGH.max(buffer.len());
+        let length = longest_row().max(buffer.len());
         buffer.resize(length, lists::any_word(random));
     }
+    let reached = readings(&bytes[..place]).pop();
+    let reached = reached.map(|reached| Reached { numbers, ..reached });
     Lent {
-        reader,
-        numbers,
+        lengths: takes_to(random, &bytes, place),
+        numbers: session(random, &reached.expect("there is a place before all bytes")),
         bytes,
         buffers,
     }
+}
+
+/// The bytes of a job that ends with these words, before them or later, and the place from which on they are read with the
+/// session that they were made for.
+fn job_of(random: &mut Random, raster: u32, words: &[u16]) -> (Vec<u8>, usize) {
+    // "Code 0 stands for 7".
+    let asked = if raster == 7 { 0 } else { raster };
+    let options = [random.pick(&[raster, asked]) as u8, random.bit().into()];
+    let before = vec![0x155; random.pick(&[0, 0, 0, 1, 2])];
+    let job = Job {
+        tag: tag(random).into_bytes(),
+        options: options.to_vec(),
+        words: [&before[..], words].concat(),
+    };
+    let all = job.words.len() as u32;
+    let any = random.between(before.len() as u32, all);
+    let count = random.pick(&[all, all, all, all + 1, any, u32::MAX]);
+    let [tag, options, _] = job.counts();
+    let mut bytes = job.bytes_with([tag, options, count]);
+    let start = bytes.len() - 2 * job.words.len();
+    // From the options' end, amid the count, after it, or after a word's low byte.
+    let amid = random.place(4);
+    let from = random.pick(&[
+        start - 4,
+        start - 4 + amid,
+        start,
+        start,
+        start + 1,
+        start + 1,
+    ]);
+    let place = if before.is_empty() {
+        from
+    } else {
+        start + 2 * before.len() + random.place(2)
+    };
+    if random.one_in(3) {
+        bytes.extend(short_file(random, 10));
+    }
+    let place = place.min(bytes.len());
+    (bytes, place)
 }
 
 fn feed_of_a_job(random: &mut Random) -> Feed {
@@ -140,69 +208,11 @@ fn lengthen(random: &mut Random, words: &mut Vec<u16>) {
     words.splice(0..0, pairs);
 }
 
-/// A reader of a job that has this session, before the count of its words.
-fn before_words(random: &mut Random, numbers: &Numbers) -> Reader {
-    let raster = numbers.raster as u8;
-    // "Code 0 stands for 7".
-    let asked = if raster == 7 { 0 } else { raster };
-    Reader {
-        stage: Stage::WordCount,
-        raster: random.pick(&[raster, asked]),
-        wipe: random.bit(),
-        tag: tag(random).into_bytes(),
-        ..Reader::default()
-    }
-}
-
-/// How far a desk has read that is lent so many words: mostly to a word of which about as many are left.
-pub fn reader(random: &mut Random, lent: u32) -> Reader {
-    if random.one_in(4) {
-        return in_a_file(random).reader;
-    }
-    let any = random.number().max(1);
-    let few = random.between(1, 3);
-    let about = [
-        few,
-        lent.max(1),
-        lent + 1,
-        lent + 1,
-        lent + 2,
-        any,
-        u32::MAX,
-    ];
-    Reader {
-        stage: Stage::Low,
-        left: random.pick(&about),
-        raster: random.below(12) as u8,
-        wipe: random.bit(),
-        tag: tag(random).into_bytes(),
-        ..Reader::default()
-    }
-}
-
-/// One that counts for nothing: any at all.
-fn any_session(random: &mut Random) -> Numbers {
-    match random.below(4) {
-        0 => Numbers::default(),
-        1 => sessions::open(random),
-        _ => refused_session(random),
-    }
-}
-
-/// Closed, or out of range.
-fn refused_session(random: &mut Random) -> Numbers {
-    if random.bit() {
-        sessions::closed(random)
-    } else {
-        sessions::out_of_range(random)
-    }
-}
-
 /// Buffers that are long enough.
 pub fn buffers(random: &mut Random) -> [Vec<u16>; 2] {
     [(); 2].map(|()| {
-        let more = random.pick(&[0, 0, 0, 1, 100, 20_000 - ENOUGH]);
-        lists::buffer_of_runs(random, ENOUGH + more)
+        let more = random.pick(&[0, 0, 0, 1, 100, 20_000 - longest_row()]);
+        lists::buffer_of_runs(random, longest_row() + more)
     })
 }
 
@@ -210,8 +220,8 @@ pub fn buffers(random: &mut Random) -> [Vec<u16>; 2] {
 pub fn shorten(random: &mut Random, buffers: &mut [Vec<u16>; 2]) {
     let channels = random.pick(&[&[0][..], &[1], &[0, 1]]);
     for &channel in channels {
-        let any = random.place(ENOUGH);
-        let length = random.pick(&[ENOUGH - 1, ENOUGH - 1, 2750, 0, any]);
+        let any = random.place(longest_row());
+        let length = random.pick(&[longest_row() - 1, longest_row() - 1, 2750, 0, any]);
         buffers[channel].truncate(length);
     }
 }

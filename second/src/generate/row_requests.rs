@@ -2,8 +2,8 @@
 
 use super::faults::{spoil_parts, spoil_row, Parts};
 use super::pieces::pair;
-use super::rows::{head, row, Row};
-use super::{lists, rasters, regions, request, Generator, Request};
+use super::rows::{row, Row};
+use super::{lists, request, Generator, Request};
 use crate::functions::*;
 use crate::runs::runs;
 use crate::search;
@@ -76,40 +76,6 @@ impl Generator {
         };
         spoil_parts(random, &mut parts);
         build_request(&parts)
-    }
-
-    /// A row that nothing is refused of, half of the time with words above 3FF, which often look like those they stand for.
-    pub(super) fn any_words(&mut self) -> Row {
-        let random = &mut self.random;
-        let wanted = pair(random);
-        let mut row = row(random, wanted);
-        if random.bit() {
-            for _ in 0..random.between(1, 4) {
-                let high = random.short(1, 0x3f) << 10;
-                let words = &mut row.words[random.place(2)];
-                regions::change_a_word(random, words, |word| word | high);
-            }
-        }
-        row
-    }
-
-    pub(super) fn judge_row(&mut self) -> Request {
-        let Row { head, words } = self.any_words();
-        let numbers = [JUDGE_ROW, head.code, head.line];
-        request(&[&numbers, &head.carry_numbers(), &both(&words)])
-    }
-
-    pub(super) fn row_refusal(&mut self) -> Request {
-        let Row { head, words } = self.any_row();
-        request(&[&[ROW_REFUSAL, head.code, head.line], &both(&words)])
-    }
-
-    pub(super) fn row_layout(&mut self) -> Request {
-        let random = &mut self.random;
-        let head = head(random);
-        let any = [rasters::code(random), rasters::line(random)];
-        let [code, line] = random.pick(&[any, [head.code, head.line]]);
-        vec![ROW_LAYOUT, code, line]
     }
 }
 

@@ -1,7 +1,7 @@
 //! Rows that are read: right, and damaged in every way that a flag tells of.
 
 use super::pieces::Pair;
-use super::regions::{change_a_word, lay_pieces};
+use super::regions::{change_a_word, lay_crowd, lay_pieces};
 use super::{lists, rasters};
 use crate::check::right_crc;
 use crate::correct::correct;
@@ -115,7 +115,11 @@ fn lay_in_a_region(random: &mut Random, layout: &Layout, words: &mut [u16], want
     } else {
         layout.blanking()
     };
-    lay_pieces(random, words, &region, wanted);
+    if random.one_in(3) {
+        lay_crowd(random, words, &region, wanted);
+    } else {
+        lay_pieces(random, words, &region, wanted);
+    }
 }
 
 /// The CRC words that the carry asks for; 200 200 where there is none.

@@ -1,21 +1,10 @@
 //! The functions of a module session.
 
-use super::{list, refusable, unknown, Answer};
+use super::{list, refusable, Answer};
 use crate::arguments::Arguments;
-use crate::functions::*;
 use crate::refusal::Refusal;
 use crate::runs::runs;
 use crate::session::{Numbers, Report, Session};
-
-pub fn call(function: u32, arguments: &mut Arguments) -> Answer {
-    match function {
-        BEGIN => begin(arguments),
-        FEED => feed(arguments),
-        END => end(arguments),
-        MODULE => module(arguments),
-        _ => unknown(function),
-    }
-}
 
 /// A call on a session: what it answers, and the session afterwards, which a refused call leaves "as it is".
 fn called<T>(
@@ -33,14 +22,14 @@ fn called<T>(
 }
 
 /// "refusal, SESSION"
-fn begin(arguments: &mut Arguments) -> Answer {
+pub fn begin(arguments: &mut Arguments) -> Answer {
     let (numbers, code) = (arguments.session()?, arguments.number()?);
     let (result, numbers) = called(numbers, |session| session.begin(code));
     Ok([&refusable(result.map(|()| []))[..], &numbers.list()].concat())
 }
 
 /// "refusal, SESSION, RUNS Y, RUNS C"
-fn feed(arguments: &mut Arguments) -> Answer {
+pub fn feed(arguments: &mut Arguments) -> Answer {
     let numbers = arguments.session()?;
     let words = arguments.signal(numbers.history)?;
     let [mut y, mut c] = [arguments.runs()?, arguments.runs()?];
@@ -52,7 +41,7 @@ fn feed(arguments: &mut Arguments) -> Answer {
 }
 
 /// "refusal, raster, rows, faults, verdict (0 refused, 1 NO SIGNAL, 2 FAIL, 3 SHORT, 4 PASS), SESSION"
-fn end(arguments: &mut Arguments) -> Answer {
+pub fn end(arguments: &mut Arguments) -> Answer {
     let (result, numbers) = called(arguments.session()?, Session::end);
     Ok(ended(result, numbers))
 }
@@ -66,7 +55,7 @@ fn ended(result: Result<Report, Refusal>, numbers: Numbers) -> Vec<u32> {
 }
 
 /// "a module: begin on a fresh session, feeds, end"; "refusal of begin, LIST refusals of the feeds, then as 72, RUNS Y, RUNS C"
-fn module(arguments: &mut Arguments) -> Answer {
+pub fn module(arguments: &mut Arguments) -> Answer {
     let (code, lengths) = (arguments.number()?, arguments.list()?);
     let words = arguments.signal(0)?;
     let [mut y, mut c] = [arguments.runs()?, arguments.runs()?];

@@ -103,14 +103,6 @@ impl Row {
         vector(&request, &[&[0, flags], &self.next_carry()[..]].concat())
     }
 
-    /// Judged, it has these flags.
-    pub fn judged(&self, carry: bool, flags: u32) -> Vector {
-        let mut judged = self.checked(carry, flags);
-        judged.request[0] = JUDGE_ROW;
-        judged.answer.remove(0);
-        judged
-    }
-
     /// Corrected, it is this row.
     pub fn corrected(&self, carry: bool, wipe: u32, row: &Row) -> Vector {
         let start = [CORRECT_ROW, self.code, self.line];
@@ -133,21 +125,6 @@ impl Row {
         let parts = active.chain(blanking).chain(buffers).collect();
         let request = [start.to_vec(), carry_numbers(carry).to_vec(), parts].concat();
         vector(&request, &made(self))
-    }
-
-    /// What raster and line say of it.
-    fn laid_out(&self) -> Vector {
-        let y = &self.words[0];
-        let (total, active) = (y.len(), y.len() - self.sav - 4);
-        let places = [0, total, active, 8, self.sav - 8, self.sav, self.sav + 4];
-        let words = [y[3], y[self.sav + 3], y[4], y[5]].map(u32::from);
-        let answer = [
-            &places.map(|place| place as u32),
-            &[self.v.into()][..],
-            &words,
-        ]
-        .concat();
-        vector(&[ROW_LAYOUT, self.code, self.line], &answer)
     }
 }
 
@@ -173,10 +150,8 @@ pub fn all() -> Vec<Vector> {
                 words[6..8].fill(0x200);
             }
             [
-                row.laid_out(),
                 row.built(true),
                 row.checked(true, 0),
-                row.judged(true, 0),
                 row.corrected(true, 0, &row),
                 without.built(false),
                 without.checked(false, 0),

@@ -37,7 +37,6 @@ pub fn all() -> Vec<Vector> {
         built_blanking(),
         short_buffers(),
         short_outputs(),
-        layouts(),
     ];
     groups.into_iter().flatten().collect()
 }
@@ -96,9 +95,8 @@ fn rows(asked: Asked) -> Vec<u32> {
 }
 
 fn read_rows() -> Vec<Vector> {
-    let mut vectors = vec![refusal_alone(0, READ)];
+    let mut vectors = Vec::new();
     for (refusal, asked) in spoilt(READ) {
-        vectors.push(refusal_alone(refusal, asked));
         vectors.push(find(refusal, asked));
         vectors.push(extract(refusal, asked, &run(7, 0x155)));
     }
@@ -107,11 +105,6 @@ fn read_rows() -> Vec<Vector> {
         vectors.push(correct(refusal, asked));
     }
     vectors
-}
-
-fn refusal_alone(refusal: u32, asked: Asked) -> Vector {
-    let start = [ROW_REFUSAL, asked.code, asked.line];
-    vector(&[&start, &rows(asked)[..]].concat(), &[refusal])
 }
 
 fn find(refusal: u32, asked: Asked) -> Vector {
@@ -197,18 +190,4 @@ fn short_outputs() -> Vec<Vector> {
     let output = run(10, 0x155);
     let request = [&[EXTRACT, 1, 750, 0], &row[..], &output].concat();
     vec![vector(&request, &[&[1, 0], &output[..]].concat())]
-}
-
-/// "row 750 of raster 1 passes, 751 and 0 give 5"
-fn layouts() -> Vec<Vector> {
-    let passing = [
-        0, 1650, 1280, 8, 358, 366, 370, 1, 0x2d8, 0x2ac, 0x1b8, 0x214,
-    ];
-    let refused = |refusal: u32| [&[refusal], &[0; 11][..]].concat();
-    vec![
-        vector(&[ROW_LAYOUT, 1, 750], &passing),
-        vector(&[ROW_LAYOUT, 1, 751], &refused(5)),
-        vector(&[ROW_LAYOUT, 1, 0], &refused(5)),
-        vector(&[ROW_LAYOUT, 12, 0], &refused(4)),
-    ]
 }

@@ -87,20 +87,6 @@ mod tests {
     use super::*;
 
     #[test]
-    fn number_5_scramble_001_from_zero() {
-        let mut output = [0];
-        assert_eq!(scramble(0, &[0x001], &mut output), Ok(0x21f));
-        assert_eq!(output, [0x21f]);
-    }
-
-    #[test]
-    fn number_6_unscramble_001_000_from_zero() {
-        let mut output = [0, 0];
-        assert_eq!(unscramble(0, &[0x001, 0x000], &mut output), Ok(0x000));
-        assert_eq!(output, [0x263, 0x001]);
-    }
-
-    #[test]
     fn a_sync_is_found_at_any_bit() {
         for place in 0..20 {
             let mut bits = vec![false; 80];

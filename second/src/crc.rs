@@ -66,20 +66,3 @@ pub fn encode(register: u32) -> (u16, u16) {
 fn crc_word(nine: &[bool]) -> u16 {
     word_of(&[nine, &[!nine[8]]].concat())
 }
-
-#[cfg(test)]
-mod tests {
-    use super::*;
-
-    #[test]
-    fn number_7_no_words() {
-        assert_eq!(checked_after_words(0, &[]), Ok(0));
-        assert_eq!(crc_words(0), Ok((0x200, 0x200)));
-    }
-
-    #[test]
-    fn number_8_the_one_word_200() {
-        assert_eq!(checked_after_words(0, &[0x200]), Ok(0x23000));
-        assert_eq!(crc_words(0x23000), Ok((0x200, 0x118)));
-    }
-}

@@ -32,33 +32,3 @@ pub const MODULE: u32 = 0x73;
 pub const DESK: u32 = 0x81;
 pub const TAKE: u32 = 0x82;
 pub const OUTCOME_LINE: u32 = 0x83;
-
-/// All of them.
-#[cfg(test)]
-pub const FUNCTIONS: [u32; 25] = [
-    RASTER_ROW,
-    NAME_RASTER,
-    V_AND_F,
-    CRC_AFTER_WORDS,
-    CRC_WORDS,
-    SCRAMBLE,
-    UNSCRAMBLE,
-    FIND_SYNC,
-    XYZ,
-    READ_XYZ,
-    LINE_WORDS,
-    READ_LINE,
-    BUILD_PACKET,
-    FIND_PACKET,
-    EXTRACT,
-    CHECK_ROW,
-    CORRECT_ROW,
-    BUILD_ROW,
-    BEGIN,
-    FEED,
-    END,
-    MODULE,
-    DESK,
-    TAKE,
-    OUTCOME_LINE,
-];

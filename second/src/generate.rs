@@ -14,8 +14,6 @@ mod faults;
 pub mod files;
 pub mod fixed;
 pub mod frames;
-#[cfg(test)]
-mod gate_coverage;
 mod lists;
 pub mod loads;
 pub mod long_sections;
@@ -23,21 +21,17 @@ mod modules;
 mod packet_requests;
 mod picture;
 mod pieces;
-#[cfg(test)]
-mod place_coverage;
 mod rasters;
 mod regions;
 mod row_requests;
 mod rows;
 #[cfg(test)]
-mod session_coverage;
+mod section_ends;
 mod session_requests;
 mod sessions;
 pub mod signals;
 mod streams;
 mod syncs;
-#[cfg(test)]
-mod taking;
 #[cfg(test)]
 mod walk;
 #[cfg(test)]

@@ -162,15 +162,6 @@ mod tests {
         0x000, 0x3ff, 0x3ff, 0x241, 0x101, 0x104, 0x185, 0x206, 0x101, 0x200,
     ];
 
-    #[test]
-    fn number_9_has_checksum_2d2() {
-        assert_eq!(checksum(&NINTH[3..]), 0x2d2);
-        let mut output = [0; 12];
-        assert_eq!(build(0x41, 0x01, &NINTH[6..], &mut output), Ok(11));
-        assert_eq!(output[..10], NINTH);
-        assert_eq!(output[10..], [0x2d2, 0]);
-    }
-
     /// "The marker's three words must all lie in it"; with fewer no packet starts there.
     #[test]
     fn a_marker_that_the_region_ends_in_is_no_packet() {
@@ -224,14 +215,5 @@ mod tests {
             assert_eq!((word & 0x1ff).count_ones() % 2, 0);
             assert_ne!(word >> 9 & 1, word >> 8 & 1);
         }
-    }
-
-    #[test]
-    fn a_refused_packet_leaves_the_output() {
-        let mut output = [0x155; 7];
-        assert_eq!(build(0, 0, &[0x400], &mut output), Err(Refusal::Word));
-        assert_eq!(build(0, 0, &[], &mut output), Err(Refusal::Packet));
-        assert_eq!(build(1, 0, &[0x004], &mut output), Err(Refusal::Short));
-        assert_eq!(output, [0x155; 7]);
     }
 }

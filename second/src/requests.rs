@@ -1,6 +1,6 @@
 //! Answers requests: each is a call of the face, or the few that the request format's table says.
 
-mod desks;
+pub mod desks;
 mod leaves;
 mod packets;
 mod rows;

@@ -75,28 +75,3 @@ pub fn read_line(code: u32, ln0: u16, ln1: u16) -> Result<u32, Refusal> {
 pub fn line_of(raster: Raster, [ln0, ln1]: [u16; 2]) -> Option<u32> {
     (1..=raster.rows).find(|&line| encode_line(line) == (ln0, ln1))
 }
-
-#[cfg(test)]
-mod tests {
-    use super::*;
-
-    #[test]
-    fn number_1_the_eight_codes() {
-        let words: Vec<u16> = codes().map(|(f, v, h)| xyz(f, v, h)).collect();
-        assert_eq!(
-            words,
-            [0x200, 0x274, 0x2ac, 0x2d8, 0x31c, 0x368, 0x3b0, 0x3c4]
-        );
-        for (fvh, word) in codes().zip(words) {
-            assert_eq!(read_xyz(word), Ok(Some(fvh)));
-        }
-    }
-
-    #[test]
-    fn numbers_2_to_4_line_words() {
-        for (line, ln0, ln1) in [(1, 0x204, 0x200), (1125, 0x194, 0x220), (64, 0x100, 0x200)] {
-            assert_eq!(line_words(7, line), Ok((ln0, ln1)));
-            assert_eq!(read_line(7, ln0, ln1), Ok(line));
-        }
-    }
-}

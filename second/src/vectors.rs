@@ -5,7 +5,6 @@ mod damaged;
 mod desks;
 mod modules;
 mod packets;
-mod refused;
 mod row_ends;
 mod sessions;
 mod wiped;
@@ -44,7 +43,6 @@ pub fn all() -> Vec<Vector> {
         built::all(),
         damaged::all(),
         wiped::all(),
-        refused::all(),
         sessions::all(),
         desks::all(),
         row_ends::all(),

@@ -3,7 +3,6 @@
 use super::sessions::{of, FRESH, NO_SIGNAL};
 use super::{vector, Vector};
 use crate::functions::*;
-use crate::generate::long_sections::{FEW, RUN};
 use crate::session::Numbers;
 
 /// "03000000 413137 02000000 0100 00000000"
@@ -26,7 +25,6 @@ pub fn all() -> Vec<Vector> {
         at_a_desk(),
         refused_bytes(),
         refused_at_a_desk(),
-        about_runs(),
         taken(),
         lines(),
     ];
@@ -135,56 +133,6 @@ fn refused_at_a_desk() -> Vec<Vector> {
             &[&refused[..], &refused, &[&NOTHING]].concat(),
         ),
     ]
-}
-
-/// Zeros, about as many as may be taken at once: no sync, a word above 3FF, the end of the file.
-fn about_runs() -> Vec<Vector> {
-    let file = |count: usize| {
-        let mut file = A17[..13].to_vec();
-        file.extend((count as u32).to_le_bytes().map(u32::from));
-        file.resize(A17.len() + 2 * count, 0);
-        file
-    };
-    let a17 = done(&A17, 1);
-    let mut vectors = Vec::new();
-    for count in (FEW - 1..=FEW + 2).chain(RUN - 1..=RUN + 2) {
-        let (file, first) = (file(count), (A17.len() + 2 * count.min(RUN) - 1) as u32);
-        let taken = [0, file.len() as u32];
-        vectors.push(desk(&[], &file, ENOUGH, &[&taken, &a17, &NOTHING]));
-        // Lent by all but the high byte of a run's last word, and the rest.
-        if taken[1] > first {
-            let takes: [&[u32]; 5] = [
-                &[0, first],
-                &NOTHING,
-                &[0, taken[1] - first],
-                &a17,
-                &NOTHING,
-            ];
-            vectors.push(desk(&[first], &file, ENOUGH, &takes));
-        }
-    }
-    for place in [0, RUN - 2, RUN - 1, RUN, RUN + 1] {
-        let mut file = file(RUN + 2);
-        let end = A17.len() + 2 * place + 2;
-        file[end - 1] = 4;
-        let bad_3 = [2, 3, 0, 0, 0, 0, 0, 0];
-        vectors.push(desk(
-            &[],
-            &file,
-            ENOUGH,
-            &[&[0, end as u32], &bad_3, &NOTHING],
-        ));
-    }
-    for end in A17.len() + 2 * RUN - 1..=A17.len() + 2 * RUN + 1 {
-        let file = &file(RUN + 1)[..end];
-        vectors.push(desk(
-            &[],
-            file,
-            ENOUGH,
-            &[&[0, end as u32], &NOTHING, &BAD_9],
-        ));
-    }
-    vectors
 }
 
 /// A job of the tag `A` and raster 1 up to its wipe byte.

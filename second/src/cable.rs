@@ -31,9 +31,7 @@ pub fn scrambled(history: u16, words: &[u16]) -> Vec<bool> {
 
 /// "d(n) = s(n) xor s(n-5) xor s(n-9)", for each bit after the history.
 pub fn unscrambled(w: &[bool]) -> Vec<bool> {
-    (HISTORY_BITS..w.len())
-        .map(|n| s(w, n) ^ s(w, n - 5) ^ s(w, n - 9))
-        .collect()
+    (HISTORY_BITS..w.len()).map(|n| s(w, n) ^ s(w, n - 5) ^ s(w, n - 9)).collect()
 }
 
 pub fn cable_bits(history: u16, words: &[u16]) -> Vec<bool> {
@@ -80,18 +78,4 @@ pub fn find_sync(words: &[u16]) -> Result<Option<usize>, Refusal> {
     refuse(&[(Refusal::Word, !all_words(words))])?;
     // "found at any bit of the unscrambled stream"
     Ok(bits_of_all(words).windows(SYNC_BITS).position(is_sync))
-}
-
-#[cfg(test)]
-mod tests {
-    use super::*;
-
-    #[test]
-    fn a_sync_is_found_at_any_bit() {
-        for place in 0..20 {
-            let mut bits = vec![false; 80];
-            bits[place..place + 20].fill(true);
-            assert_eq!(find_sync(&words_of(&bits)), Ok(Some(place)));
-        }
-    }
 }

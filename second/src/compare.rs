@@ -6,7 +6,6 @@ mod changes;
 mod command;
 mod files;
 mod parts;
-mod progress;
 mod requests;
 mod shrinking;
 

@@ -36,8 +36,6 @@ mod syncs;
 mod walk;
 #[cfg(test)]
 mod whole_desks;
-#[cfg(test)]
-mod whole_streams;
 
 use crate::functions::*;
 use crate::random::Random;
@@ -87,11 +85,7 @@ pub struct Generator {
 
 impl Generator {
     pub fn new(seed: u64) -> Self {
-        Self {
-            random: Random::new(seed),
-            line: 0,
-            turn: 0,
-        }
+        Self { random: Random::new(seed), line: 0, turn: 0 }
     }
 
     pub fn request(&mut self) -> Request {
@@ -126,11 +120,7 @@ impl Generator {
     }
 
     fn v_and_f(&mut self) -> Request {
-        vec![
-            V_AND_F,
-            rasters::code(&mut self.random),
-            rasters::line(&mut self.random),
-        ]
+        vec![V_AND_F, rasters::code(&mut self.random), rasters::line(&mut self.random)]
     }
 
     fn crc_after_words(&mut self) -> Request {
@@ -183,11 +173,8 @@ impl Generator {
     }
 
     fn read_line(&mut self) -> Request {
-        let (ln0, ln1) = if self.random.bit() {
-            timing::encode_line(self.next_line())
-        } else {
-            codes::line_words(&mut self.random)
-        };
+        let (ln0, ln1) =
+            if self.random.bit() { timing::encode_line(self.next_line()) } else { codes::line_words(&mut self.random) };
         let code = rasters::code(&mut self.random);
         vec![READ_LINE, code, ln0.into(), ln1.into()]
     }
@@ -199,28 +186,5 @@ fn request(parts: &[&[u32]]) -> Request {
 
 fn list(words: &[u16]) -> Vec<u32> {
     let elements = words.iter().map(|&word| u32::from(word));
-    std::iter::once(words.len() as u32)
-        .chain(elements)
-        .collect()
-}
-
-#[cfg(test)]
-mod tests {
-    use super::*;
-    use crate::requests::{answer, format_line};
-
-    #[test]
-    fn the_same_seed_gives_the_same_requests() {
-        let (mut one, mut other) = (Generator::new(5), Generator::new(5));
-        assert!((0..1000).all(|_| one.request() == other.request()));
-    }
-
-    #[test]
-    fn every_request_is_well_formed() {
-        let mut generator = Generator::new(1);
-        for _ in 0..5000 {
-            let line = format_line(&generator.request());
-            assert!(answer(&line).is_ok(), "{line}");
-        }
-    }
+    std::iter::once(words.len() as u32).chain(elements).collect()
 }

@@ -85,36 +85,3 @@ impl Layout {
         }
     }
 }
-
-#[cfg(test)]
-mod tests {
-    use super::*;
-    use crate::raster::TABLE;
-
-    /// "blanking T-A-12", and each part where the one before it ends.
-    #[test]
-    fn the_parts_follow_one_another() {
-        for raster in TABLE {
-            let layout = Layout::of(raster.code, 1).expect("line 1 is of every raster");
-            let length = raster.total - raster.active - 12;
-            assert_eq!(layout.blanking().len(), length as usize);
-            let parts = [
-                EAV,
-                LINE,
-                CRC,
-                layout.blanking(),
-                layout.sav(),
-                layout.active(),
-            ];
-            assert!(parts.windows(2).all(|pair| pair[0].end == pair[1].start));
-            assert_eq!(layout.active().end, layout.total());
-        }
-    }
-
-    #[test]
-    fn active_words_hold_packets_where_v_is_1() {
-        let regions = |line| Layout::of(1, line).map(|layout| layout.packet_regions());
-        assert_eq!(regions(25), Ok(vec![8..366, 370..1650]));
-        assert_eq!(regions(26).map(|regions| regions.len()), Ok(1));
-    }
-}

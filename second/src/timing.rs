@@ -27,30 +27,8 @@ pub fn read_xyz(word: u16) -> Result<Option<(bool, bool, bool)>, Refusal> {
 /// All other low bits are 0; bit 9 is the inverse of bit 8."
 pub fn encode_line(line: u32) -> (u16, u16) {
     let bit = |place: u32| line >> place & 1 == 1;
-    let ln0 = [
-        false,
-        false,
-        bit(0),
-        bit(1),
-        bit(2),
-        bit(3),
-        bit(4),
-        bit(5),
-        bit(6),
-        !bit(6),
-    ];
-    let ln1 = [
-        false,
-        false,
-        bit(7),
-        bit(8),
-        bit(9),
-        bit(10),
-        false,
-        false,
-        false,
-        true,
-    ];
+    let ln0 = [false, false, bit(0), bit(1), bit(2), bit(3), bit(4), bit(5), bit(6), !bit(6)];
+    let ln1 = [false, false, bit(7), bit(8), bit(9), bit(10), false, false, false, true];
     (word_of(&ln0), word_of(&ln1))
 }
 
@@ -64,10 +42,7 @@ pub fn line_words(code: u32, line: u32) -> Result<(u16, u16), Refusal> {
 pub fn read_line(code: u32, ln0: u16, ln1: u16) -> Result<u32, Refusal> {
     // 4 comes before 3 in the order.
     let raster = raster_of(code)?;
-    refuse(&[
-        (Refusal::Word, !is_word(ln0)),
-        (Refusal::Word, !is_word(ln1)),
-    ])?;
+    refuse(&[(Refusal::Word, !is_word(ln0)), (Refusal::Word, !is_word(ln1))])?;
     Ok(line_of(raster, [ln0, ln1]).unwrap_or(0))
 }
 

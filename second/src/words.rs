@@ -62,16 +62,3 @@ pub fn lay(buffer: &mut [u16], place: usize, words: &[u16]) {
 pub fn fill(output: &mut [u16], result: &[u16]) {
     output[..result.len()].copy_from_slice(result);
 }
-
-#[cfg(test)]
-mod tests {
-    use super::*;
-
-    #[test]
-    fn words_without_a_place_are_not_laid() {
-        let mut buffer = [1, 2, 3];
-        lay(&mut buffer, 2, &[8, 9]);
-        lay(&mut buffer, 3, &[7]);
-        assert_eq!(buffer, [1, 2, 8]);
-    }
-}

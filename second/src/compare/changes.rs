@@ -13,9 +13,7 @@ const CARRY: Range<usize> = 10..13;
 
 /// The number, its half, its quarter .. and 1: sizes of parts, coarse before fine.
 pub fn halvings(number: usize) -> impl Iterator<Item = usize> {
-    (0..usize::BITS)
-        .map(move |times| number >> times)
-        .take_while(|&part| part > 0)
+    (0..usize::BITS).map(move |times| number >> times).take_while(|&part| part > 0)
 }
 
 pub fn without(piece: &Piece, range: Range<usize>) -> Numbers {
@@ -62,6 +60,11 @@ pub fn simpler(piece: &Piece) -> Vec<Numbers> {
         Kind::Bytes => simpler_files(&piece.numbers),
         _ => Vec::new(),
     }
+}
+
+/// Whether a tag or options are as plain as can be: with fewer bytes, or zeros, the file would only be bad.
+pub fn is_plain(piece: &Piece) -> bool {
+    matches!(piece.kind, Kind::Tag | Kind::Options) && simpler(piece).contains(&piece.numbers)
 }
 
 fn simpler_sessions(piece: &Piece) -> Vec<Numbers> {
@@ -152,13 +155,6 @@ mod tests {
         assert_eq!(melted(&twos, 0..6), [[11, 1, 2], [11, 3, 4]]);
         assert!(melted(&piece(Kind::List, &[1, 2]), 0..2).is_empty());
         assert_eq!(cleared(&piece(Kind::List, &[1, 2]), 0..1), [0, 2]);
-    }
-
-    #[test]
-    fn a_number_is_less_by_a_half_a_quarter_and_one() {
-        let numbers = lessened(&piece(Kind::Number, &[10]), 0);
-        assert_eq!(numbers, [[0], [5], [8], [9]]);
-        assert_eq!(lessened(&piece(Kind::Number, &[1]), 0), [[0]]);
     }
 
     /// Open, of raster 1, with a history; then one that is out of range by its line.

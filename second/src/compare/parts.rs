@@ -101,10 +101,7 @@ impl Parts {
 
     /// A bench file of no jobs, only bytes.
     pub fn of_bytes(bytes: &[u8]) -> Self {
-        let rest = Piece {
-            kind: Kind::Rest,
-            numbers: bytes.iter().map(|&byte| byte.into()).collect(),
-        };
+        let rest = Piece { kind: Kind::Rest, numbers: bytes.iter().map(|&byte| byte.into()).collect() };
         let (function, pieces) = (None, vec![rest]);
         Self { function, pieces }
     }
@@ -149,16 +146,13 @@ impl Parts {
     pub fn without_jobs(&self, jobs: Range<usize>) -> Self {
         let mut parts = self.clone();
         let sections = SECTIONS.len();
-        parts
-            .pieces
-            .drain(sections * jobs.start..sections * jobs.end);
+        parts.pieces.drain(sections * jobs.start..sections * jobs.end);
         parts
     }
 
     /// The feeds of a module cannot take more words than there are.
     fn mend_lengths(&mut self) {
-        let (Some(MODULE), [_, lengths, _, twos, list, ..]) = (self.function, &mut self.pieces[..])
-        else {
+        let (Some(MODULE), [_, lengths, _, twos, list, ..]) = (self.function, &mut self.pieces[..]) else {
             return;
         };
         let times = twos.numbers.chunks(3).map(|run| run[0] as usize);
@@ -178,11 +172,7 @@ fn first_job(bytes: &[u8]) -> Option<(Vec<Piece>, &[u8])> {
         let (count, after) = left.split_first_chunk()?;
         let count = u32::from_le_bytes(*count) as usize;
         let (section, after) = after.split_at_checked(count.checked_mul(width)?)?;
-        let number = |bytes: &[u8]| {
-            bytes
-                .iter()
-                .rfold(0, |high, &low| high << 8 | u32::from(low))
-        };
+        let number = |bytes: &[u8]| bytes.iter().rfold(0, |high, &low| high << 8 | u32::from(low));
         let numbers = section.chunks(width).map(number).collect();
         pieces.push(Piece { kind, numbers });
         left = after;
@@ -232,7 +222,6 @@ fn arguments(function: u32) -> Option<&'static [Kind]> {
 mod tests {
     use super::*;
     use crate::generate::{files::file, Generator};
-    use crate::job::Job;
     use crate::vectors;
 
     #[test]
@@ -268,14 +257,5 @@ mod tests {
             let bytes = file(seed).bytes;
             assert!(Parts::of_file(&bytes).put() == bytes, "{seed}");
         }
-    }
-
-    #[test]
-    fn a_job_that_is_cut_short_is_the_rest() {
-        let job = Job::new("A17", 1, false, vec![1, 2]).bytes();
-        let cut = &job[..job.len() - 1];
-        let parts = Parts::of_file(&[&job, cut].concat());
-        assert_eq!(parts.jobs(), 1);
-        assert_eq!(parts.without_jobs(0..1), Parts::of_bytes(cut));
     }
 }

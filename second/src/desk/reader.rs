@@ -75,10 +75,7 @@ impl Reader {
             Ok(piece) => (piece, None),
             Err(refusal) => {
                 let stage = Stage::Stopped;
-                *self = Self {
-                    stage,
-                    ..Self::default()
-                };
+                *self = Self { stage, ..Self::default() };
                 (Piece::Refused(refusal), None)
             }
         }
@@ -150,10 +147,7 @@ impl Reader {
 
     /// "Order where several apply: [..] 9, 4": "wipe not 0 or 1" before "raster not 0..11".
     fn read_wipe(&mut self, byte: u8) -> Result<Piece, Refusal> {
-        refuse(&[
-            (Refusal::File, byte > 1),
-            (Refusal::Raster, raster_of(self.raster.into()).is_err()),
-        ])?;
+        refuse(&[(Refusal::File, byte > 1), (Refusal::Raster, raster_of(self.raster.into()).is_err())])?;
         self.wipe = byte == 1;
         self.stage = Stage::WordCount;
         Ok(Piece::Options(self.raster))

@@ -31,10 +31,7 @@ impl Asked {
         let answer = answer(&format_line(&request)).expect("requests are well formed");
         let numbers = answer.split(' ').map(|text| u32::from_str_radix(text, 16));
         let answer = numbers.collect::<Result<_, _>>();
-        Self {
-            request,
-            answer: answer.expect("answers are hexadecimal"),
-        }
+        Self { request, answer: answer.expect("answers are hexadecimal") }
     }
 
     /// The arguments, after so many numbers of them.
@@ -74,11 +71,7 @@ pub fn feed(asked: &Asked) -> Feed {
     let numbers = arguments.session().expect("a session");
     let words = arguments.signal(numbers.history).expect("a signal");
     let buffers = [(); 2].map(|()| arguments.runs().expect("runs"));
-    Feed {
-        numbers,
-        words,
-        buffers,
-    }
+    Feed { numbers, words, buffers }
 }
 
 /// How often each sign comes.
@@ -117,9 +110,7 @@ fn most_requests_are_of_sessions_rows_and_packets() {
     let third = all().len() / 3;
     assert!(asked(&[BEGIN, FEED, END, MODULE]).count() > third);
     let rows = [FIND_PACKET, EXTRACT, CHECK_ROW, CORRECT_ROW, BUILD_ROW];
-    let of_rows = all()
-        .iter()
-        .filter(|asked| rows.contains(&asked.request[0]));
+    let of_rows = all().iter().filter(|asked| rows.contains(&asked.request[0]));
     assert!(of_rows.count() + 1000 > third);
 }
 

@@ -22,7 +22,7 @@ impl Generator {
         let (file, lengths) = match random.below(25) {
             0 => cut_anywhere(random, file_with_rows),
             1 => cut_anywhere(random, |random| any_file(random, 2000)),
-            2 | 3 => about_a_run(random),
+            2..=5 => about_a_run(random),
             _ => cut_anywhere(random, |random| any_file(random, 60)),
         };
         let mut buffers = buffers(random);
@@ -33,12 +33,7 @@ impl Generator {
     }
 
     pub(super) fn take(&mut self) -> Request {
-        let Lent {
-            lengths,
-            bytes,
-            numbers,
-            buffers,
-        } = lent(&mut self.random);
+        let Lent { lengths, bytes, numbers, buffers } = lent(&mut self.random);
         let taken = [list(&lengths), byte_list(&bytes)].concat();
         request(&[&[TAKE], &taken, &numbers.list(), &both(&buffers)])
     }
@@ -114,7 +109,7 @@ fn few_from(random: &mut Random, first: usize) -> Vec<u16> {
 
 /// A section of about a run of words or two, a take that ends about where they do, and perhaps a bad word or a cut there.
 fn about_a_run(random: &mut Random) -> (Vec<u8>, Vec<u16>) {
-    let end = random.pick(&[FEW, RUN, RUN, 2 * RUN]);
+    let end = random.pick(&[FEW, FEW, RUN, RUN, 2 * RUN]);
     let count = end + random.place(6) - 2;
     let last = count * WORD_BITS - random.pick(&[SYNC_BITS, CODE, 300]);
     let before = random.place(CODE);

@@ -4,9 +4,10 @@ use super::files::{short_file, tag};
 use super::long_sections::length;
 use super::session_requests::{any_feed, Feed};
 use super::{code_feeds, lists, sessions, signals};
-use crate::desk::{longest_row, Desk, Stage};
+use crate::desk::{longest_row, Desk};
 use crate::job::Job;
 use crate::random::Random;
+use crate::requests::desks::desk_after;
 use crate::session::Numbers;
 
 /// What a take gets, and the bytes that were taken before.
@@ -18,115 +19,53 @@ pub struct Lent {
     pub buffers: [Vec<u16>; 2],
 }
 
-/// How far a desk has read.
-struct Reached {
-    place: usize,
-    stage: Stage,
-    in_words: bool,
-    numbers: Numbers,
-}
-
 pub fn lent(random: &mut Random) -> Lent {
-    let mut lent = if random.bit() {
-        in_a_job(random)
-    } else {
-        in_a_file(random)
-    };
+    let mut lent = if random.bit() { in_a_job(random) } else { in_a_file(random) };
     if random.one_in(10) {
         shorten(random, &mut lent.buffers);
     }
     lent
 }
 
-/// A file that was read to some byte, each stage as often where it comes at all, and its other bytes, or some of them.
+/// A file that was read to any byte, often to one of its first sections or amid its first options, and its other bytes.
 fn in_a_file(random: &mut Random) -> Lent {
-    let mut bytes = short_file(random, 30);
-    let mut reached = readings(&bytes);
-    let mut stages: Vec<Stage> = Vec::new();
-    for one in &reached {
-        if !stages.contains(&one.stage) {
-            stages.push(one.stage);
-        }
-    }
-    let wanted = random.pick(&stages);
-    reached.retain(|one| one.stage == wanted);
-    let (last, any) = (reached.len() - 1, random.place(reached.len()));
-    let reached = &reached[random.pick(&[last, any])];
-    let lengths = takes_to(random, &bytes, reached.place);
-    if random.one_in(4) {
-        let left = bytes.len() - reached.place;
-        bytes.truncate(reached.place + random.place(left + 1));
-    }
-    if random.one_in(6) {
-        let any = random.below(0x100) as u8;
-        bytes[reached.place..]
-            .iter_mut()
-            .take(1)
-            .for_each(|byte| *byte = any);
-    }
-    Lent {
-        lengths,
-        bytes,
-        numbers: session(random, reached),
-        buffers: buffers(random),
-    }
+    let bytes = short_file(random, 30);
+    let options = 8 + bytes.first().copied().map_or(0, usize::from);
+    let places = [random.place(bytes.len() + 1), random.place(26), options + random.place(3)];
+    let place = random.pick(&places).min(bytes.len());
+    let lengths = takes_to(random, &bytes, place);
+    let (desk, _) = desk_after(&lengths, &bytes);
+    Lent { numbers: session(random, &desk, desk.numbers()), lengths, bytes, buffers: buffers(random) }
 }
 
-/// How far a desk has read after each byte of a file.
-fn readings(file: &[u8]) -> Vec<Reached> {
-    let [mut y, mut c] = [(); 2].map(|()| vec![0; longest_row()]);
-    let mut desk = Desk::default();
-    let places = 0..=file.len();
-    let readings = places.map(|place| {
-        let come = &file[place.saturating_sub(1)..place];
-        desk.take(come, &mut [&mut y, &mut c])
-            .expect("nothing is refused");
-        Reached {
-            place,
-            stage: desk.reader.stage,
-            in_words: desk.reader.is_in_words(),
-            numbers: desk.numbers(),
-        }
-    });
-    readings.collect()
-}
-
-/// The desk's own session where words are read, or one that is refused; else any at all.
-fn session(random: &mut Random, reached: &Reached) -> Numbers {
-    if reached.in_words && !random.one_in(8) {
-        return reached.numbers;
-    }
-    match random.below(4) {
-        0 if !reached.in_words => Numbers::default(),
-        1 if !reached.in_words => sessions::open(random),
-        0 | 2 => sessions::closed(random),
+/// This session where words are read, or one that is refused; else any at all.
+fn session(random: &mut Random, desk: &Desk, numbers: Numbers) -> Numbers {
+    let in_words = desk.reader.is_in_words();
+    match random.below(16) {
+        0..=13 if in_words => numbers,
+        0..=3 => Numbers::default(),
+        4..=7 => sessions::open(random),
+        8..=11 | 14 => sessions::closed(random),
         _ => sessions::out_of_range(random),
     }
 }
 
 /// Takes of all bytes up to a place, cut anywhere; a take ends with a job.
 fn takes_to(random: &mut Random, file: &[u8], place: usize) -> Vec<u16> {
-    let [mut y, mut c] = [(); 2].map(|()| vec![0; longest_row()]);
-    let mut desk = Desk::default();
     let mut lengths = Vec::new();
-    let mut left = &file[..place];
-    while !left.is_empty() {
+    loop {
+        let (_, left) = desk_after(&lengths, &file[..place]);
+        if left.is_empty() {
+            return lengths;
+        }
         let any = random.place(left.len() + 1);
-        let length = random.pick(&[left.len(), left.len(), any]);
-        let taken = desk.take(&left[..length], &mut [&mut y, &mut c]);
-        left = &left[taken.expect("nothing is refused").0..];
-        lengths.push(length as u16);
+        lengths.push(random.pick(&[left.len(), left.len(), any]) as u16);
     }
-    lengths
 }
 
 /// A session in the middle of a row, its words as a job's, which ends with them, before them or later.
 fn in_a_job(random: &mut Random) -> Lent {
-    let Feed {
-        numbers,
-        mut words,
-        mut buffers,
-    } = feed_of_a_job(random);
+    let Feed { numbers, mut words, mut buffers } = feed_of_a_job(random);
     words.truncate(2000);
     if random.one_in(20) {
         lengthen(random, &mut words);
@@ -140,14 +79,9 @@ fn in_a_job(random: &mut Random) -> Lent {
         let length = longest_row().max(buffer.len());
         buffer.resize(length, lists::any_word(random));
     }
-    let reached = readings(&bytes[..place]).pop();
-    let reached = reached.map(|reached| Reached { numbers, ..reached });
-    Lent {
-        lengths: takes_to(random, &bytes, place),
-        numbers: session(random, &reached.expect("there is a place before all bytes")),
-        bytes,
-        buffers,
-    }
+    let lengths = takes_to(random, &bytes, place);
+    let (desk, _) = desk_after(&lengths, &bytes);
+    Lent { numbers: session(random, &desk, numbers), lengths, bytes, buffers }
 }
 
 /// The bytes of a job that ends with these words, before them or later, and the place from which on they are read with the
@@ -157,11 +91,7 @@ fn job_of(random: &mut Random, raster: u32, words: &[u16]) -> (Vec<u8>, usize) {
     let asked = if raster == 7 { 0 } else { raster };
     let options = [random.pick(&[raster, asked]) as u8, random.bit().into()];
     let before = vec![0x155; random.pick(&[0, 0, 0, 1, 2])];
-    let job = Job {
-        tag: tag(random).into_bytes(),
-        options: options.to_vec(),
-        words: [&before[..], words].concat(),
-    };
+    let job = Job { tag: tag(random).into_bytes(), options: options.to_vec(), words: [&before[..], words].concat() };
     let all = job.words.len() as u32;
     let any = random.between(before.len() as u32, all);
     let count = random.pick(&[all, all, all, all + 1, any, u32::MAX]);
@@ -170,19 +100,8 @@ fn job_of(random: &mut Random, raster: u32, words: &[u16]) -> (Vec<u8>, usize) {
     let start = bytes.len() - 2 * job.words.len();
     // From the options' end, amid the count, after it, or after a word's low byte.
     let amid = random.place(4);
-    let from = random.pick(&[
-        start - 4,
-        start - 4 + amid,
-        start,
-        start,
-        start + 1,
-        start + 1,
-    ]);
-    let place = if before.is_empty() {
-        from
-    } else {
-        start + 2 * before.len() + random.place(2)
-    };
+    let from = random.pick(&[start - 4, start - 4 + amid, start, start, start + 1, start + 1]);
+    let place = if before.is_empty() { from } else { start + 2 * before.len() + random.place(2) };
     if random.one_in(3) {
         bytes.extend(short_file(random, 10));
     }

@@ -29,7 +29,7 @@ pub fn desk(arguments: &mut Arguments) -> Answer {
 }
 
 /// A take that is lent so many bytes "from the first byte that is not yet taken on (or as many as there are)".
-pub fn take_some(desk: &mut Desk, left: &mut &[u8], length: usize, rows: &mut Buffers) -> Taken {
+fn take_some(desk: &mut Desk, left: &mut &[u8], length: usize, rows: &mut Buffers) -> Taken {
     let result = desk.take(&left[..length.min(left.len())], rows);
     *left = &left[result.as_ref().map_or(0, |(taken, _)| *taken)..];
     result
@@ -65,8 +65,8 @@ pub fn desk_after<'a>(lengths: &[u16], bytes: &'a [u8]) -> (Desk, &'a [u8]) {
     let mut desk = Desk::default();
     let mut left = bytes;
     for &length in lengths {
-        let result = take_some(&mut desk, &mut left, length.into(), &mut [&mut y, &mut c]);
-        result.expect("its own session and buffers are right");
+        // What it answers is not told.
+        let _ = take_some(&mut desk, &mut left, length.into(), &mut [&mut y, &mut c]);
     }
     (desk, left)
 }
@@ -75,9 +75,7 @@ pub fn desk_after<'a>(lengths: &[u16], bytes: &'a [u8]) -> (Desk, &'a [u8]) {
 fn is_of_desk(desk: &Desk, numbers: &Numbers) -> bool {
     let raster = raster_of(desk.reader.raster.into());
     let is_refused = !numbers.open || !numbers.in_range();
-    !desk.reader.is_in_words()
-        || is_refused
-        || raster.is_ok_and(|raster| raster.code == numbers.raster)
+    !desk.reader.is_in_words() || is_refused || raster.is_ok_and(|raster| raster.code == numbers.raster)
 }
 
 pub fn outcome_line(arguments: &mut Arguments) -> Answer {

@@ -78,9 +78,7 @@ impl Numbers {
             bit == 0 && ahead <= PAIR_BITS
         } else {
             let eav = EAV.end as u32;
-            (eav..total + eav).contains(&self.pairs)
-                && bit < PAIR_BITS
-                && (ahead == 0 || ahead + bit == PAIR_BITS)
+            (eav..total + eav).contains(&self.pairs) && bit < PAIR_BITS && (ahead == 0 || ahead + bit == PAIR_BITS)
         };
         self.last[1] < 1 << (SYNC_BITS - 32) && in_row
     }

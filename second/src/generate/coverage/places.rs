@@ -134,16 +134,8 @@ fn in_modules_codes_rows_and_zeros_end_at_every_place() {
     assert_ends(&places, 2);
     // Of feeds of each number of words from one to five, and of more, odd and even.
     for words in [1, 2, 3, 4, 5, 8, 9] {
-        for sign in [
-            "in a sync's zeros",
-            "in an XYZ pair",
-            "with a sync",
-            "with an EAV",
-        ] {
-            assert!(
-                places.at(&format!("end {sign}"), words) >= 1,
-                "{sign}, {words}"
-            );
+        for sign in ["in a sync's zeros", "in an XYZ pair", "with a sync", "with an EAV"] {
+            assert!(places.at(&format!("end {sign}"), words) >= 1, "{sign}, {words}");
         }
     }
 }
@@ -161,7 +153,7 @@ fn at_desks_syncs_end_at_every_place_and_sections_about_a_run() {
     assert_at_every_place(&places, &["opens"], 1);
     ends.assert_come(about_runs("section", &[FEW, RUN]), 1);
     ends.assert_come(about_runs("lent", &[RUN]), 1);
-    ends.assert_come(about_runs("bad", &[RUN])[..4].iter(), 1);
+    ends.assert_come(&about_runs("bad", &[RUN])[..4], 1);
     for what in ["section", "lent", "bad", "cut"] {
         ends.assert_come((0..=2).map(|number| format!("{what} {number}")), 1);
     }
@@ -179,7 +171,7 @@ fn in_fixed_files_all_ends_at_every_place() {
     }
     assert_zeros(&seen.places, 20);
     seen.ends.assert_come(about_runs("section", &[FEW, RUN]), 1);
-    seen.ends.assert_come(about_runs("bad", &[RUN]), 1);
+    seen.ends.assert_come(&about_runs("bad", &[RUN])[..4], 1);
     for number in [RUN - 2, RUN - 1, RUN, RUN + 1] {
         let cuts = ["", " and a half"].map(|half| format!("cut {number}{half}"));
         seen.ends.assert_come(cuts, 1);
@@ -198,7 +190,6 @@ fn in_files_of_seeds_syncs_and_rows_end_at_every_place() {
         read_file(&file, &mut seen);
     }
     assert_at_every_place(&seen.places, &SYNCS, 10);
-    assert_at_every_place(&seen.places, &EVENTS, 1);
-    seen.ends
-        .assert_come((0..=3).map(|number| format!("section {number}")), 1);
+    assert_at_every_place(&seen.places, &EVENTS[..3], 1);
+    seen.ends.assert_come((0..=3).map(|number| format!("section {number}")), 1);
 }

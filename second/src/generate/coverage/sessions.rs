@@ -1,7 +1,7 @@
 //! What the requests of sessions hold.
 
 use super::{asked, feed, Asked, Tally};
-use crate::arguments::{Arguments, MOST_FED};
+use crate::arguments::Arguments;
 use crate::functions::*;
 use crate::layout::{Layout, CRC, EAV, LINE};
 use crate::raster::raster_of;
@@ -28,10 +28,7 @@ fn signs(asked: &Asked) -> Vec<String> {
         }
     };
     let more = |before: u32, after: u32| after.wrapping_sub(before);
-    let (rows, faults) = (
-        more(before.rows, after.rows),
-        more(before.faults, after.faults),
-    );
+    let (rows, faults) = (more(before.rows, after.rows), more(before.faults, after.faults));
     let mut signs = vec![
         format!("rows +{rows}{}", ceiling(before.rows)),
         format!("faults +{faults}{}", ceiling(before.faults)),
@@ -69,9 +66,7 @@ fn parts_above(asked: &Asked) -> impl Iterator<Item = &'static str> {
         let mut buffers = feed.buffers.iter();
         buffers.any(|words| words[part.clone()].iter().any(|&word| !is_word(word)))
     };
-    let parts = parts
-        .into_iter()
-        .filter(move |(_, part)| part.start < come && above(part));
+    let parts = parts.into_iter().filter(move |(_, part)| part.start < come && above(part));
     parts.map(|(name, _)| name)
 }
 
@@ -79,28 +74,11 @@ fn parts_above(asked: &Asked) -> impl Iterator<Item = &'static str> {
 fn everything_happens_to_rows_of_feeds() {
     let running = asked(&[FEED]).filter(|asked| asked.answer[0] == 0);
     let tally = Tally::of(running.flat_map(signs));
-    tally.assert_come(
-        ["rows +0", "rows +1", "faults +0", "faults +1", "faults +2"],
-        10,
-    );
+    tally.assert_come(["rows +0", "rows +1", "faults +0", "faults +1", "faults +2"], 10);
     tally.assert_come(["rows +0 at the ceiling", "faults +0 at the ceiling"], 10);
-    tally.assert_come(
-        [
-            "rows +1, faults +0",
-            "rows +1, faults +1",
-            "rows +0, faults +1",
-        ],
-        10,
-    );
+    tally.assert_come(["rows +1, faults +0", "rows +1, faults +1", "rows +0, faults +1"], 10);
     tally.assert_come(["line taken", "line 1 after the last"], 10);
-    let parts = [
-        "EAV",
-        "line words",
-        "CRC words",
-        "blanking",
-        "SAV",
-        "active words",
-    ];
+    let parts = ["EAV", "line words", "CRC words", "blanking", "SAV", "active words"];
     tally.assert_come(parts.map(|part| format!("word above 3FF in the {part}")), 3);
 }
 
@@ -144,9 +122,7 @@ fn out_of_range(numbers: &Numbers) -> &'static str {
         ("ahead", |numbers| numbers.ahead = 0),
         ("pairs", |numbers| numbers.pairs = 4),
         ("bit", |numbers| numbers.bit = 0),
-        ("carry without a line", |numbers| {
-            numbers.line = numbers.line.max(1)
-        }),
+        ("carry without a line", |numbers| numbers.line = numbers.line.max(1)),
         ("line", |numbers| numbers.line = numbers.line.min(1)),
         ("carry", |numbers| numbers.carry = None),
         ("raster", |numbers| numbers.raster = numbers.open.into()),
@@ -166,10 +142,7 @@ fn every_number_is_out_of_range() {
         let sessions = sessions.map(|numbers| numbers.expect("a session"));
         let bad = sessions.filter(|numbers| !numbers.in_range());
         let tally = Tally::of(bad.map(|numbers| out_of_range(&numbers).to_string()));
-        tally.assert_come(
-            ["raster", "history", "last", "ahead", "pairs", "bit", "line"],
-            1,
-        );
+        tally.assert_come(["raster", "history", "last", "ahead", "pairs", "bit", "line"], 1);
         tally.assert_come(["carry", "carry without a line", "several"], 1);
     }
 }
@@ -183,21 +156,4 @@ fn every_answered_session_is_in_range() {
         assert!(after.in_range() || !given.in_range());
         assert!(asked.answer[0] == 0 || after == given);
     }
-}
-
-/// "a list of words to be fed has at most 40,000 words, a row buffer at most 20,000"; most requests are short.
-#[test]
-fn requests_keep_to_the_limits() {
-    for asked in asked(&[MODULE]) {
-        let mut arguments = asked.arguments(1);
-        arguments.list().expect("lengths");
-        assert!(arguments.signal(0).expect("a signal").len() <= MOST_FED);
-        let buffers = [(); 2].map(|()| arguments.runs().expect("runs"));
-        assert!(buffers.iter().all(|buffer| buffer.len() <= 20_000));
-    }
-    let lengths: Vec<usize> = asked(&[FEED, MODULE])
-        .map(|asked| asked.request.len())
-        .collect();
-    let short = lengths.iter().filter(|&&length| length < 400).count();
-    assert!(20 * short > 17 * lengths.len());
 }

@@ -2,7 +2,7 @@
 
 use crate::cable::scramble;
 use crate::crc::Carry;
-use crate::session::{Numbers, Sight};
+use crate::session::Numbers;
 use std::vec::IntoIter;
 
 /// "a list of words to be fed has at most 40,000 words"
@@ -18,9 +18,7 @@ impl Arguments {
     }
 
     pub fn number(&mut self) -> Result<u32, String> {
-        self.0
-            .next()
-            .ok_or_else(|| "an argument is missing".to_string())
+        self.0.next().ok_or_else(|| "an argument is missing".to_string())
     }
 
     /// "an element of a list, a word and a history are below 2^16"
@@ -104,30 +102,17 @@ impl Arguments {
         (0..count).map(|_| self.byte()).collect()
     }
 
-    /// "six of these numbers, from the last sixty bits to bit"
-    pub fn sight(&mut self) -> Result<Sight, String> {
-        Ok(Sight {
+    /// "the fifteen numbers of a session [..], in this order"
+    pub fn session(&mut self) -> Result<Numbers, String> {
+        Ok(Numbers {
+            open: self.flag()?,
+            raster: self.number()?,
+            history: self.word()?,
             last: [self.number()?, self.number()?],
             ahead: self.byte()?,
             seen: self.flag()?,
             pairs: self.number()?,
             bit: self.byte()?,
-        })
-    }
-
-    /// "the fifteen numbers of a session [..], in this order"
-    pub fn session(&mut self) -> Result<Numbers, String> {
-        let (open, raster, history) = (self.flag()?, self.number()?, self.word()?);
-        let sight = self.sight()?;
-        Ok(Numbers {
-            open,
-            raster,
-            history,
-            last: sight.last,
-            ahead: sight.ahead,
-            seen: sight.seen,
-            pairs: sight.pairs,
-            bit: sight.bit,
             line: self.number()?,
             carry: self.carry()?,
             rows: self.number()?,

@@ -28,10 +28,7 @@ pub fn build(
     });
     let reserved = |words: &Vec<u16>| layout.makes_reserved(&words[CRC]);
     let short = |buffer: &&mut [u16]| buffer.len() < layout.total();
-    refuse(&[
-        (Refusal::Made, built.iter().any(reserved)),
-        (Refusal::Short, buffers.iter().any(short)),
-    ])?;
+    refuse(&[(Refusal::Made, built.iter().any(reserved)), (Refusal::Short, buffers.iter().any(short))])?;
     for (buffer, words) in buffers.into_iter().zip(&built) {
         fill(buffer, words);
     }
@@ -60,41 +57,4 @@ fn frame(layout: &Layout, register: Option<u32>, blanking: u16) -> Vec<u16> {
     words[CRC].copy_from_slice(&crc);
     words[layout.sav()].copy_from_slice(&layout.sav_words());
     words
-}
-
-#[cfg(test)]
-mod tests {
-    use super::*;
-    use crate::check::check;
-
-    fn built(line: u32, carry: Option<Carry>, word: u16) -> ([Vec<u16>; 2], Carry) {
-        let mut rows = [vec![0; 1650], vec![0; 1650]];
-        let active = [word; 1280];
-        let buffers = rows.each_mut().map(Vec::as_mut_slice);
-        let next = build(1, line, carry, [&active; 2], [&[]; 2], buffers).expect("it can be built");
-        (rows, next)
-    }
-
-    /// "Covered words: the active words of the row before, then EAV, LN0, LN1 of this row."
-    #[test]
-    fn the_crc_covers_the_active_words_of_the_row_before() {
-        let (_, before) = built(30, None, 0x155);
-        let (rows, own) = built(31, Some(before), 0x2aa);
-        let flags = |carry| {
-            let row = rows.each_ref().map(Vec::as_slice);
-            check(1, 31, carry, row).map(|(flags, _)| flags)
-        };
-        assert_ne!(before, own);
-        assert_eq!(flags(Some(before)), Ok(0));
-        assert_eq!(flags(Some(own)), Ok(1 << 3 | 1 << 4));
-        assert_eq!(flags(None), Ok(0));
-    }
-
-    #[test]
-    fn without_a_carry_the_crc_words_are_200_200() {
-        let (rows, _) = built(30, None, 0x155);
-        assert!(rows.iter().all(|words| words[CRC] == [0x200, 0x200]));
-        let (rows, _) = built(30, Some([0, 0]), 0x155);
-        assert!(rows.iter().all(|words| words[CRC] != [0x200, 0x200]));
-    }
 }

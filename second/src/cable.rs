@@ -31,9 +31,7 @@ pub fn scrambled(history: u16, words: &[u16]) -> Vec<bool> {
 
 /// "d(n) = s(n) xor s(n-5) xor s(n-9)", for each bit after the history.
 pub fn unscrambled(w: &[bool]) -> Vec<bool> {
-    (HISTORY_BITS..w.len())
-        .map(|n| s(w, n) ^ s(w, n - 5) ^ s(w, n - 9))
-        .collect()
+    (HISTORY_BITS..w.len()).map(|n| s(w, n) ^ s(w, n - 5) ^ s(w, n - 9)).collect()
 }
 
 pub fn cable_bits(history: u16, words: &[u16]) -> Vec<bool> {
@@ -69,16 +67,6 @@ pub fn unscramble(history: u16, words: &[u16], output: &mut [u16]) -> Result<u16
     Ok(next_history(&w))
 }
 
-/// Scrambles one word; the low ten bits of history and word count.
-pub fn scramble_word(history: u16, word: u16) -> u16 {
-    word_of(&scrambled(history, &[word])[HISTORY_BITS..])
-}
-
-/// Unscrambles one word; the low ten bits of history and word count.
-pub fn unscramble_word(history: u16, word: u16) -> u16 {
-    word_of(&unscrambled(&cable_bits(history, &[word])))
-}
-
 /// "A sync is 20 ones then 40 zeros."
 pub fn is_sync(bits: &[bool]) -> bool {
     let (ones, zeros) = bits.split_at(SYNC_ONES);
@@ -90,32 +78,4 @@ pub fn find_sync(words: &[u16]) -> Result<Option<usize>, Refusal> {
     refuse(&[(Refusal::Word, !all_words(words))])?;
     // "found at any bit of the unscrambled stream"
     Ok(bits_of_all(words).windows(SYNC_BITS).position(is_sync))
-}
-
-#[cfg(test)]
-mod tests {
-    use super::*;
-
-    #[test]
-    fn number_5_scramble_001_from_zero() {
-        let mut output = [0];
-        assert_eq!(scramble(0, &[0x001], &mut output), Ok(0x21f));
-        assert_eq!(output, [0x21f]);
-    }
-
-    #[test]
-    fn number_6_unscramble_001_000_from_zero() {
-        let mut output = [0, 0];
-        assert_eq!(unscramble(0, &[0x001, 0x000], &mut output), Ok(0x000));
-        assert_eq!(output, [0x263, 0x001]);
-    }
-
-    #[test]
-    fn a_sync_is_found_at_any_bit() {
-        for place in 0..20 {
-            let mut bits = vec![false; 80];
-            bits[place..place + 20].fill(true);
-            assert_eq!(find_sync(&words_of(&bits)), Ok(Some(place)));
-        }
-    }
 }

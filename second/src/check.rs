@@ -11,10 +11,7 @@ pub fn readable(code: u32, line: u32, row: Row) -> Result<Layout, Refusal> {
     let layout = Layout::of(code, line)?;
     let total = layout.total();
     refuse(&[
-        (
-            Refusal::Length,
-            row.iter().any(|words| words.len() != total),
-        ),
+        (Refusal::Length, row.iter().any(|words| words.len() != total)),
         (Refusal::Word, !row.iter().all(|words| all_words(words))),
     ])?;
     Ok(layout)
@@ -34,12 +31,7 @@ pub fn checkable(code: u32, line: u32, carry: Option<Carry>, row: Row) -> Result
 }
 
 /// The flags of a row and the next carry, or a refusal.
-pub fn check(
-    code: u32,
-    line: u32,
-    carry: Option<Carry>,
-    row: Row,
-) -> Result<(u32, Carry), Refusal> {
+pub fn check(code: u32, line: u32, carry: Option<Carry>, row: Row) -> Result<(u32, Carry), Refusal> {
     let layout = checkable(code, line, carry, row)?;
     Ok(judge(&layout, carry, row))
 }
@@ -55,7 +47,7 @@ pub fn judge(layout: &Layout, carry: Option<Carry>, row: Row) -> (u32, Carry) {
 }
 
 /// The flags of one channel of a row.
-pub fn channel_flags(layout: &Layout, channel: usize, register: Option<u32>, words: &[u16]) -> u32 {
+fn channel_flags(layout: &Layout, channel: usize, register: Option<u32>, words: &[u16]) -> u32 {
     let mut flags = timing_flags(layout, words);
     // "With no row before, CRC is neither judged nor corrected."
     if let Some(register) = register {
@@ -102,10 +94,6 @@ pub fn right_crc(register: u32, words: &[u16]) -> [u16; 2] {
 
 /// "each channel's CRC register after a row's active words".
 pub fn next_carry(layout: &Layout, row: Row) -> Carry {
-    row.map(|words| active_register(layout, words))
-}
-
-/// "from zero"
-pub fn active_register(layout: &Layout, words: &[u16]) -> u32 {
-    after_words(0, &words[layout.active()])
+    // "from zero"
+    row.map(|words| after_words(0, &words[layout.active()]))
 }

@@ -2,17 +2,12 @@
 
 mod answers;
 mod budget;
+mod changes;
 mod command;
-mod file_parts;
-mod file_shrinking;
 mod files;
-mod halvings;
-mod progress;
-mod request_changes;
-mod request_parts;
-mod request_shrinking;
+mod parts;
 mod requests;
-mod tried;
+mod shrinking;
 
 use crate::generate::{captures, cuts, files::file, fixed, frames::frames, Generator};
 use crate::{decimal, vectors, Failure, USAGE};

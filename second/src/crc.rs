@@ -16,24 +16,17 @@ fn after_bit(register: u32, bit: bool) -> u32 {
 }
 
 /// The register after a word; of the word the low ten bits count.
-pub fn after_word(register: u32, word: u16) -> u32 {
+fn after_word(register: u32, word: u16) -> u32 {
     bits_of(word).into_iter().fold(register, after_bit)
 }
 
 /// The register after words, refusing nothing.
 pub fn after_words(register: u32, words: &[u16]) -> u32 {
-    words
-        .iter()
-        .fold(register, |register, &word| after_word(register, word))
+    words.iter().fold(register, |register, &word| after_word(register, word))
 }
 
 /// "The carry is each channel's CRC register after a row's active words": that of Y, then that of C.
 pub type Carry = [u32; 2];
-
-/// The registers after the words of both channels, "from zero, each channel alone".
-pub fn of_both([y, c]: [&[u16]; 2]) -> Carry {
-    [after_words(0, y), after_words(0, c)]
-}
 
 /// "1 and the registers of Y and C, or `0 0 0` for none"
 pub fn carry_numbers(carry: Option<Carry>) -> [u32; 3] {
@@ -47,10 +40,7 @@ pub fn is_carry(register: u32) -> bool {
 
 /// The register after words, or refusal 3.
 pub fn checked_after_words(register: u32, words: &[u16]) -> Result<u32, Refusal> {
-    refuse(&[
-        (Refusal::Word, !is_carry(register)),
-        (Refusal::Word, !all_words(words)),
-    ])?;
+    refuse(&[(Refusal::Word, !is_carry(register)), (Refusal::Word, !all_words(words))])?;
     Ok(after_words(register, words))
 }
 
@@ -62,39 +52,10 @@ pub fn crc_words(register: u32) -> Result<(u16, u16), Refusal> {
 
 /// "CR0 holds register bits 8..0, CR1 bits 17..9; bit 9 is the inverse of bit 8."
 pub fn encode(register: u32) -> (u16, u16) {
-    let bits: Vec<bool> = (0..REGISTER_BITS)
-        .map(|place| register >> place & 1 == 1)
-        .collect();
+    let bits: Vec<bool> = (0..REGISTER_BITS).map(|place| register >> place & 1 == 1).collect();
     (crc_word(&bits[0..9]), crc_word(&bits[9..18]))
 }
 
 fn crc_word(nine: &[bool]) -> u16 {
     word_of(&[nine, &[!nine[8]]].concat())
-}
-
-#[cfg(test)]
-mod tests {
-    use super::*;
-
-    #[test]
-    fn number_7_no_words() {
-        assert_eq!(checked_after_words(0, &[]), Ok(0));
-        assert_eq!(crc_words(0), Ok((0x200, 0x200)));
-    }
-
-    #[test]
-    fn number_8_the_one_word_200() {
-        assert_eq!(checked_after_words(0, &[0x200]), Ok(0x23000));
-        assert_eq!(crc_words(0x23000), Ok((0x200, 0x118)));
-    }
-
-    #[test]
-    fn channels_of_different_length_are_each_alone() {
-        assert_eq!(of_both([&[0x200], &[]]), [0x23000, 0]);
-        let words = [0x3ff, 0x200, 0x155];
-        for count in 0..=words.len() {
-            let after = after_words(0, &words[..count]);
-            assert_eq!(of_both([&words[..count], &[0x600]]), [after, 0x23000]);
-        }
-    }
 }

@@ -1,15 +1,14 @@
 //! A desk: it is lent the bytes of a bench file, cut anywhere, and tells what comes of them.
 
 mod outcome;
-mod reader;
+pub mod reader;
 
 pub use outcome::{Done, Outcome};
-pub use reader::{Piece, Reader, Stage, STAGES};
 
 use crate::raster::TABLE;
 use crate::refusal::{refuse, Refusal};
 use crate::session::{Buffers, Numbers, Session};
-use reader::Ended;
+use reader::{Ended, Piece, Reader};
 
 #[derive(Default)]
 pub struct Desk {
@@ -21,13 +20,10 @@ pub struct Desk {
 }
 
 impl Desk {
-    pub fn of(reader: Reader, numbers: Numbers) -> Self {
+    /// The desk with another session.
+    pub fn with_session(self, numbers: Numbers) -> Self {
         let session = numbers.session().ok();
-        Self {
-            reader,
-            running: session.filter(|_| numbers.open),
-            idle: numbers,
-        }
+        Self { running: session.filter(|_| numbers.open), idle: numbers, ..self }
     }
 
     /// The numbers of its session.
@@ -36,17 +32,10 @@ impl Desk {
     }
 
     /// Takes bytes up to the one that ends a job or is refused; answers how many it took, and what comes of them.
-    pub fn take(
-        &mut self,
-        bytes: &[u8],
-        buffers: &mut Buffers,
-    ) -> Result<(usize, Outcome), Refusal> {
+    pub fn take(&mut self, bytes: &[u8], buffers: &mut Buffers) -> Result<(usize, Outcome), Refusal> {
         let short = |buffer: &&mut [u16]| buffer.len() < longest_row();
         refuse(&[
-            (
-                Refusal::Session,
-                self.reader.is_in_words() && self.running.is_none(),
-            ),
+            (Refusal::Session, self.reader.is_in_words() && self.running.is_none()),
             (Refusal::Short, buffers.iter().any(short)),
         ])?;
         for (place, &byte) in bytes.iter().enumerate() {
@@ -75,9 +64,7 @@ impl Desk {
     /// "Its session is begun anew when the options are read".
     fn begin(&mut self, raster: u8) {
         let mut session = Session::default();
-        session
-            .begin(raster.into())
-            .expect("it is fresh, and the raster was read");
+        session.begin(raster.into()).expect("it is fresh, and the raster was read");
         self.running = Some(session);
     }
 
@@ -119,10 +106,6 @@ impl Desk {
 }
 
 /// "1 where a buffer has fewer than 4,125 words, whatever the raster": T of the longest row.
-fn longest_row() -> usize {
-    TABLE
-        .map(|raster| raster.total)
-        .into_iter()
-        .max()
-        .unwrap_or(0) as usize
+pub fn longest_row() -> usize {
+    TABLE.map(|raster| raster.total).into_iter().max().unwrap_or(0) as usize
 }

@@ -1,7 +1,6 @@
 //! Where a row's parts stand, and what raster and line say of them:
 //! "A row of T pairs: EAV 4, LN 2, CRC 2, blanking T-A-12, SAV 4, active A."
 
-use crate::crc::after_words;
 use crate::raster::{raster_with_line, v_and_f, Raster};
 use crate::refusal::Refusal;
 use crate::timing::{encode_line, xyz};
@@ -69,12 +68,6 @@ impl Layout {
         encode_line(self.line).into()
     }
 
-    /// The CRC register after the EAV and line number words as they should be, from a register.
-    pub fn start_register(&self, register: u32) -> u32 {
-        let register = after_words(register, &self.eav_words());
-        after_words(register, &self.line_words())
-    }
-
     /// "a timing code, line number, CRC [..] to be made would be a reserved code"; the CRC words, where made, are given.
     pub fn makes_reserved(&self, crc: &[u16]) -> bool {
         let codes = [self.eav_words()[3], self.sav_words()[3]];
@@ -90,38 +83,5 @@ impl Layout {
         } else {
             vec![self.blanking()]
         }
-    }
-}
-
-#[cfg(test)]
-mod tests {
-    use super::*;
-    use crate::raster::TABLE;
-
-    /// "blanking T-A-12", and each part where the one before it ends.
-    #[test]
-    fn the_parts_follow_one_another() {
-        for raster in TABLE {
-            let layout = Layout::of(raster.code, 1).expect("line 1 is of every raster");
-            let length = raster.total - raster.active - 12;
-            assert_eq!(layout.blanking().len(), length as usize);
-            let parts = [
-                EAV,
-                LINE,
-                CRC,
-                layout.blanking(),
-                layout.sav(),
-                layout.active(),
-            ];
-            assert!(parts.windows(2).all(|pair| pair[0].end == pair[1].start));
-            assert_eq!(layout.active().end, layout.total());
-        }
-    }
-
-    #[test]
-    fn active_words_hold_packets_where_v_is_1() {
-        let regions = |line| Layout::of(1, line).map(|layout| layout.packet_regions());
-        assert_eq!(regions(25), Ok(vec![8..366, 370..1650]));
-        assert_eq!(regions(26).map(|regions| regions.len()), Ok(1));
     }
 }

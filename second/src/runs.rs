@@ -31,24 +31,3 @@ pub fn signal(to_scramble: bool, words: &[u16]) -> Vec<u32> {
     numbers.extend(list.iter().map(|&word| u32::from(word)));
     numbers
 }
-
-#[cfg(test)]
-mod tests {
-    use super::*;
-
-    #[test]
-    fn the_runs_are_the_longest() {
-        assert_eq!(runs(&[]), [0]);
-        assert_eq!(runs(&[5, 5, 0, 5]), [3, 2, 5, 1, 0, 1, 5]);
-    }
-
-    #[test]
-    fn a_signal_lists_the_words_after_its_last_run() {
-        assert_eq!(signal(true, &[]), [1, 0, 0]);
-        assert_eq!(signal(false, &[5]), [0, 0, 1, 5]);
-        assert_eq!(
-            signal(false, &[5, 6, 5, 6, 1, 2, 3]),
-            [0, 1, 2, 5, 6, 3, 1, 2, 3]
-        );
-    }
-}

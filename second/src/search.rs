@@ -9,9 +9,7 @@ use crate::words::fill;
 /// The whole packets of a channel.
 fn packets<'a>(layout: &Layout, words: &'a [u16]) -> Vec<&'a [u16]> {
     let regions = layout.packet_regions().into_iter();
-    regions
-        .flat_map(|region| whole_packets(&words[region]))
-        .collect()
+    regions.flat_map(|region| whole_packets(&words[region])).collect()
 }
 
 /// "The first whole packet with a wanted pair, Y before C, from its 000 to its checksum [..]; if none, an empty part of Y."
@@ -23,13 +21,7 @@ pub fn find(code: u32, line: u32, wanted: (u8, u8), row: Row<'_>) -> Result<&[u1
 }
 
 /// "Extraction copies all whole packets of a channel, in order, end to end." Answers how many words they have.
-pub fn extract(
-    code: u32,
-    line: u32,
-    channel: usize,
-    row: Row,
-    output: &mut [u16],
-) -> Result<usize, Refusal> {
+pub fn extract(code: u32, line: u32, channel: usize, row: Row, output: &mut [u16]) -> Result<usize, Refusal> {
     let layout = readable(code, line, row)?;
     let copied = packets(&layout, row[channel]).concat();
     refuse(&[(Refusal::Short, output.len() < copied.len())])?;
@@ -70,22 +62,5 @@ mod tests {
         assert_eq!(found(1, &active, &blanking), Some(0x300));
         assert_eq!(found(1, &none, &blanking), Some(0x100));
         assert_eq!(found(1, &none, &none), None);
-    }
-
-    /// Active words hold packets only in "rows whose expected line has V = 1".
-    #[test]
-    fn a_picture_holds_no_packet() {
-        let active = channel(&[(400, 0x300)]);
-        assert_eq!(found(25, &active, &active), Some(0x300));
-        assert_eq!(found(26, &active, &active), None);
-    }
-
-    #[test]
-    fn all_are_copied_in_order() {
-        let words = channel(&[(400, 0x000), (300, 0x100), (8, 0x200)]);
-        let mut output = [0x155; 22];
-        assert_eq!(extract(1, 1, 0, [&words, &words], &mut output), Ok(21));
-        assert_eq!([output[5], output[12], output[19]], [0x200, 0x100, 0x000]);
-        assert_eq!(output[21], 0x155);
     }
 }

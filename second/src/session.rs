@@ -1,13 +1,9 @@
 //! A module session: "Begin (raster), feed (words), end (verdict)."
 
-mod happening;
 mod module;
 mod numbers;
-mod sight;
 
-pub use happening::{counts_after, happen, Happening, Track};
 pub use numbers::{last_of_bits, Numbers};
-pub use sight::{last_words, lay_event, Event, Sight, EVENTS};
 
 use crate::raster::raster_of;
 use crate::refusal::{refuse, Refusal};
@@ -74,10 +70,7 @@ impl Session {
     pub fn feed(&mut self, words: &[u16], buffers: &mut Buffers) -> Result<(), Refusal> {
         let module = self.0.as_mut().ok_or(Refusal::Session)?;
         let short = |buffer: &&mut [u16]| buffer.len() < module.total();
-        refuse(&[
-            (Refusal::Word, !all_words(words)),
-            (Refusal::Short, buffers.iter().any(short)),
-        ])?;
+        refuse(&[(Refusal::Word, !all_words(words)), (Refusal::Short, buffers.iter().any(short))])?;
         module.feed(words, buffers);
         Ok(())
     }
@@ -92,48 +85,5 @@ impl Session {
     pub fn end(&mut self) -> Result<Report, Refusal> {
         let module = self.0.take().ok_or(Refusal::Session)?;
         Ok(module.report())
-    }
-}
-
-#[cfg(test)]
-mod tests {
-    use super::*;
-    use crate::build::build;
-    use crate::cable::scramble;
-
-    /// The cable words of rows of raster 1 that follow one another from line 700 on, and of an EAV after them.
-    fn rows(count: u32) -> Vec<u16> {
-        let [mut y, mut c] = [[0; 1650]; 2];
-        let mut words = Vec::new();
-        let mut carry = None;
-        for line in (700..).map(|line| line % 750 + 1).take(count as usize) {
-            let active = [[0x3ac; 1280], [0x1e6; 1280]];
-            let active = active.each_ref().map(|words| &words[..]);
-            let next = build(1, line, carry, active, [&[]; 2], [&mut y, &mut c]);
-            carry = next.ok();
-            words.extend(y.iter().zip(&c).flat_map(|(&y, &c)| [c, y]));
-        }
-        words.extend([0x3ff, 0x3ff, 0, 0, 0, 0, 0x274, 0x274]);
-        let mut cable = vec![0; words.len()];
-        scramble(0, &words, &mut cable).expect("built words are at most 3FF");
-        cable
-    }
-
-    /// "A row counts once its CRC could be judged": of 751 rows 750 do, once the EAV after the last has ended.
-    #[test]
-    fn a_frame_passes_with_its_last_eav() {
-        let cable = rows(751);
-        let [mut y, mut c] = [[0; 1650]; 2];
-        for (words, rows, verdict) in [
-            (&cable[..], 750, Verdict::Pass),
-            (&cable[..cable.len() - 1], 749, Verdict::Short),
-        ] {
-            let mut session = Session::default();
-            assert_eq!(session.begin(1), Ok(()));
-            assert_eq!(session.feed(words, &mut [&mut y, &mut c]), Ok(()));
-            let report = session.end().expect("it is open");
-            assert_eq!([report.rows, report.faults], [rows, 0]);
-            assert_eq!(report.verdict as u32, verdict as u32);
-        }
     }
 }

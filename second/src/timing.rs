@@ -27,30 +27,8 @@ pub fn read_xyz(word: u16) -> Result<Option<(bool, bool, bool)>, Refusal> {
 /// All other low bits are 0; bit 9 is the inverse of bit 8."
 pub fn encode_line(line: u32) -> (u16, u16) {
     let bit = |place: u32| line >> place & 1 == 1;
-    let ln0 = [
-        false,
-        false,
-        bit(0),
-        bit(1),
-        bit(2),
-        bit(3),
-        bit(4),
-        bit(5),
-        bit(6),
-        !bit(6),
-    ];
-    let ln1 = [
-        false,
-        false,
-        bit(7),
-        bit(8),
-        bit(9),
-        bit(10),
-        false,
-        false,
-        false,
-        true,
-    ];
+    let ln0 = [false, false, bit(0), bit(1), bit(2), bit(3), bit(4), bit(5), bit(6), !bit(6)];
+    let ln1 = [false, false, bit(7), bit(8), bit(9), bit(10), false, false, false, true];
     (word_of(&ln0), word_of(&ln1))
 }
 
@@ -64,39 +42,11 @@ pub fn line_words(code: u32, line: u32) -> Result<(u16, u16), Refusal> {
 pub fn read_line(code: u32, ln0: u16, ln1: u16) -> Result<u32, Refusal> {
     // 4 comes before 3 in the order.
     let raster = raster_of(code)?;
-    refuse(&[
-        (Refusal::Word, !is_word(ln0)),
-        (Refusal::Word, !is_word(ln1)),
-    ])?;
+    refuse(&[(Refusal::Word, !is_word(ln0)), (Refusal::Word, !is_word(ln1))])?;
     Ok(line_of(raster, [ln0, ln1]).unwrap_or(0))
 }
 
 /// The line that line words are exact for; words above 3FF are for none.
 pub fn line_of(raster: Raster, [ln0, ln1]: [u16; 2]) -> Option<u32> {
     (1..=raster.rows).find(|&line| encode_line(line) == (ln0, ln1))
-}
-
-#[cfg(test)]
-mod tests {
-    use super::*;
-
-    #[test]
-    fn number_1_the_eight_codes() {
-        let words: Vec<u16> = codes().map(|(f, v, h)| xyz(f, v, h)).collect();
-        assert_eq!(
-            words,
-            [0x200, 0x274, 0x2ac, 0x2d8, 0x31c, 0x368, 0x3b0, 0x3c4]
-        );
-        for (fvh, word) in codes().zip(words) {
-            assert_eq!(read_xyz(word), Ok(Some(fvh)));
-        }
-    }
-
-    #[test]
-    fn numbers_2_to_4_line_words() {
-        for (line, ln0, ln1) in [(1, 0x204, 0x200), (1125, 0x194, 0x220), (64, 0x100, 0x200)] {
-            assert_eq!(line_words(7, line), Ok((ln0, ln1)));
-            assert_eq!(read_line(7, ln0, ln1), Ok(line));
-        }
-    }
 }

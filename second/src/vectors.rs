@@ -5,9 +5,7 @@ mod damaged;
 mod desks;
 mod modules;
 mod packets;
-mod refused;
 mod row_ends;
-mod session_parts;
 mod sessions;
 mod wiped;
 
@@ -21,10 +19,7 @@ pub struct Vector {
 }
 
 fn vector(request: &[u32], answer: &[u32]) -> Vector {
-    Vector {
-        request: request.to_vec(),
-        answer: answer.to_vec(),
-    }
+    Vector { request: request.to_vec(), answer: answer.to_vec() }
 }
 
 pub fn all() -> Vec<Vector> {
@@ -33,14 +28,9 @@ pub fn all() -> Vec<Vector> {
         line_numbers(),
         cable(),
         crc(),
-        nine_bits(),
         word_limits(),
         row_limits(),
-        carries(),
-        laid_words(),
         rasters(),
-        places(),
-        blanked(),
         named_rasters(),
         unnamed_rasters(),
         picture_lines(),
@@ -48,9 +38,7 @@ pub fn all() -> Vec<Vector> {
         built::all(),
         damaged::all(),
         wiped::all(),
-        refused::all(),
         sessions::all(),
-        session_parts::all(),
         desks::all(),
         row_ends::all(),
         modules::all(),
@@ -65,10 +53,7 @@ fn timing_codes() -> Vec<Vector> {
         .zip(words)
         .flat_map(|(fvh, word)| {
             let (f, v, h) = (fvh >> 2 & 1, fvh >> 1 & 1, fvh & 1);
-            [
-                vector(&[XYZ, f, v, h], &[word]),
-                vector(&[READ_XYZ, word], &[0, 1, f, v, h]),
-            ]
+            [vector(&[XYZ, f, v, h], &[word]), vector(&[READ_XYZ, word], &[0, 1, f, v, h])]
         })
         .collect()
 }
@@ -78,10 +63,7 @@ fn line_numbers() -> Vec<Vector> {
     [(1, 0x204, 0x200), (1125, 0x194, 0x220), (64, 0x100, 0x200)]
         .into_iter()
         .flat_map(|(line, ln0, ln1)| {
-            [
-                vector(&[LINE_WORDS, 7, line], &[0, ln0, ln1]),
-                vector(&[READ_LINE, 7, ln0, ln1], &[0, line]),
-            ]
+            [vector(&[LINE_WORDS, 7, line], &[0, ln0, ln1]), vector(&[READ_LINE, 7, ln0, ln1], &[0, line])]
         })
         .collect()
 }
@@ -90,67 +72,32 @@ fn line_numbers() -> Vec<Vector> {
 fn cable() -> Vec<Vector> {
     vec![
         vector(&[SCRAMBLE, 0, 1, 0x001, 1, 0], &[0, 0x21f, 1, 0x21f]),
-        vector(&[SCRAMBLE_WORD, 0, 0x001], &[0x21f]),
-        vector(
-            &[UNSCRAMBLE, 0, 2, 0x001, 0x000, 2, 0, 0],
-            &[0, 0x000, 2, 0x263, 0x001],
-        ),
-        vector(&[UNSCRAMBLE_WORD, 0, 0x001], &[0x263]),
-        vector(&[UNSCRAMBLE_WORD, 0x001, 0x000], &[0x001]),
+        vector(&[UNSCRAMBLE, 0, 2, 0x001, 0x000, 2, 0, 0], &[0, 0x000, 2, 0x263, 0x001]),
+        vector(&[UNSCRAMBLE, 0x001, 1, 0x000, 1, 0], &[0, 0x000, 1, 0x001]),
     ]
 }
 
 /// "(7) CRC of no words: 200 200; (8) CRC of the one word 200: register 23000, words 200 118".
 fn crc() -> Vec<Vector> {
     vec![
-        vector(&[CRC_CHECKED, 0, 0], &[0, 0]),
-        vector(&[CRC_AFTER_WORDS, 0, 0], &[0]),
+        vector(&[CRC_AFTER_WORDS, 0, 0], &[0, 0]),
         vector(&[CRC_WORDS, 0], &[0, 0x200, 0x200]),
-        vector(&[CRC_AFTER_WORD, 0, 0x200], &[0x23000]),
-        vector(&[CRC_CHECKED, 0, 1, 0x200], &[0, 0x23000]),
-        vector(&[CRC_AFTER_WORDS, 0, 1, 0x200], &[0x23000]),
+        vector(&[CRC_AFTER_WORDS, 0, 1, 0x200], &[0, 0x23000]),
         vector(&[CRC_WORDS, 0x23000], &[0, 0x200, 0x118]),
-        vector(&[CRC_OF_BOTH, 0, 0], &[0, 0]),
-        vector(&[CRC_OF_BOTH, 1, 0x200, 0], &[0x23000, 0]),
-        vector(&[CRC_OF_BOTH, 0, 1, 0x600], &[0, 0x23000]),
-        vector(&[CRC_OF_BOTH, 1, 0x3ff, 1, 0x200], &[0x3df08, 0x23000]),
         // Words of zeros leave a register of zeros.
-        vector(
-            &[CRC_OF_BOTH, 3, 0, 0, 0x200, 2, 0, 0x3ff],
-            &[0x23000, 0x3df08],
-        ),
-        vector(
-            &[CRC_OF_BOTH, 2, 0, 0x200, 5, 0, 0, 0, 0, 0x3ff],
-            &[0x23000, 0x3df08],
-        ),
+        vector(&[CRC_AFTER_WORDS, 0, 3, 0, 0, 0x200], &[0, 0x23000]),
+        vector(&[CRC_AFTER_WORDS, 0, 5, 0, 0, 0, 0, 0x3ff], &[0, 0x3df08]),
     ]
-}
-
-/// The audio DIDs as the data sheets print them (000:1911-1919, 002:100, 003:2137-2141).
-const AUDIO_DIDS: [u16; 28] = [
-    0x2ff, 0x1fd, 0x1fb, 0x2f9, 0x1fe, 0x2fc, 0x2fa, 0x1f8, 0x1ef, 0x2ee, 0x2ed, 0x1ec, 0x2e7,
-    0x1e6, 0x1e5, 0x2e4, 0x1e3, 0x2e2, 0x2e1, 0x1e0, 0x1a7, 0x2a6, 0x2a5, 0x1a4, 0x2a3, 0x1a2,
-    0x1a1, 0x2a0,
-];
-
-/// "bit 9 is the inverse of bit 8", asked for with a wrong bit 9.
-fn nine_bits() -> Vec<Vector> {
-    AUDIO_DIDS
-        .map(u32::from)
-        .map(|word| vector(&[WITH_BIT_NINE, word ^ 0x200], &[word]))
-        .into()
 }
 
 /// "word 3FF passes, 400 gives 3", wherever a word or a history is taken; a carry's limit is 3FFFF.
 /// What 3FF gives where it passes is worked by hand.
 fn word_limits() -> Vec<Vector> {
     vec![
-        vector(&[ALL_WORDS, 1, 0x3ff], &[1]),
-        vector(&[ALL_WORDS, 1, 0x400], &[0]),
-        vector(&[CRC_CHECKED, 0, 1, 0x3ff], &[0, 0x3df08]),
-        vector(&[CRC_CHECKED, 0, 1, 0x400], &[3, 0]),
-        vector(&[CRC_CHECKED, 0x3ffff, 0], &[0, 0x3ffff]),
-        vector(&[CRC_CHECKED, 0x40000, 0], &[3, 0]),
+        vector(&[CRC_AFTER_WORDS, 0, 1, 0x3ff], &[0, 0x3df08]),
+        vector(&[CRC_AFTER_WORDS, 0, 1, 0x400], &[3, 0]),
+        vector(&[CRC_AFTER_WORDS, 0x3ffff, 0], &[0, 0x3ffff]),
+        vector(&[CRC_AFTER_WORDS, 0x40000, 0], &[3, 0]),
         vector(&[CRC_WORDS, 0x3ffff], &[0, 0x1ff, 0x1ff]),
         vector(&[CRC_WORDS, 0x40000], &[3, 0, 0]),
         vector(&[SCRAMBLE, 0x3ff, 0, 0], &[0, 0x3ff, 0]),
@@ -169,42 +116,6 @@ fn word_limits() -> Vec<Vector> {
         vector(&[READ_LINE, 1, 0x3ff, 0x3ff], &[0, 0]),
         vector(&[READ_LINE, 1, 0x400, 0x200], &[3, 0]),
         vector(&[READ_LINE, 1, 0x204, 0x400], &[3, 0]),
-    ]
-}
-
-/// What a carry says, and "a carry above 3FFFF".
-fn carries() -> Vec<Vector> {
-    let carries = [
-        ([0, 0, 0], 1),
-        ([1, 0, 0], 1),
-        ([1, 0x3ffff, 0x3ffff], 1),
-        ([1, 0x40000, 0], 0),
-        ([1, 0, 0x40000], 0),
-        ([1, 0xffff_ffff, 0xffff_ffff], 0),
-    ];
-    carries
-        .into_iter()
-        .flat_map(|(carry, in_range)| {
-            let [known, y, c] = carry;
-            [
-                vector(&[CARRY_SAYS, known, y, c], &carry),
-                vector(&[IS_CARRY, known, y, c], &[in_range]),
-            ]
-        })
-        .collect()
-}
-
-/// A word laid so many times, and words sought for "000-003, 3FC-3FF": the whole number is compared.
-fn laid_words() -> Vec<Vector> {
-    vec![
-        vector(&[LAY_TIMES, 4, 1, 2, 3, 4, 1, 2, 9], &[4, 1, 9, 9, 4]),
-        vector(&[LAY_TIMES, 2, 1, 2, 1, 0xffff_ffff, 9], &[2, 1, 9]),
-        vector(&[LAY_TIMES, 2, 1, 2, 2, 1, 9], &[2, 1, 2]),
-        vector(&[LAY_TIMES, 2, 1, 2, 0, 0, 9], &[2, 1, 2]),
-        vector(&[ANY_RESERVED, 0], &[0]),
-        vector(&[ANY_RESERVED, 4, 0x004, 0x3fb, 0x400, 0xffff], &[0]),
-        vector(&[ANY_RESERVED, 2, 0x004, 0x003], &[1]),
-        vector(&[ANY_RESERVED, 2, 0x3fc, 0x3fb], &[1]),
     ]
 }
 
@@ -240,10 +151,7 @@ fn rasters() -> Vec<Vector> {
     let mut vectors: Vec<Vector> = ROWS
         .iter()
         .map(|&[code, _, active, rows, kind, hanc]| {
-            vector(
-                &[RASTER_ROW, code],
-                &[0, code, active + hanc + 12, active, rows, kind],
-            )
+            vector(&[RASTER_ROW, code], &[0, code, active + hanc + 12, active, rows, kind])
         })
         .collect();
     vectors.push(vector(&[RASTER_ROW, 0], &[0, 7, 2640, 1920, 1125, 1]));
@@ -251,45 +159,9 @@ fn rasters() -> Vec<Vector> {
     vectors
 }
 
-/// Where a row's parts stand, counted from the first active word: the EAV's XYZ at A+3, the SAV's at T-1. T and A are
-/// asked to be what these places make them.
-fn places() -> Vec<Vector> {
-    [
-        (5, 1283, 4124), // 003:1043
-        (4, 1283, 3959), // 003:1044
-        (3, 1283, 3299), // 003:1045
-        (2, 1283, 1979), // 003:1046
-        (1, 1283, 1649), // 003:1047
-    ]
-    .into_iter()
-    .map(|(code, eav, sav)| vector(&[RASTER_ROW, code], &[0, code, sav + 1, eav - 3, 750, 0]))
-    .collect()
-}
-
-/// T-A, the words that are not active (003:1001 for two fields, 003:1027 for progressive).
-fn blanked() -> Vec<Vector> {
-    [
-        (6, 280, 1),
-        (7, 720, 1),
-        (9, 280, 0),
-        (10, 720, 0),
-        (11, 830, 0),
-    ]
-    .into_iter()
-    .map(|(code, blanked, kind)| {
-        vector(
-            &[RASTER_ROW, code],
-            &[0, code, 1920 + blanked, 1920, 1125, kind],
-        )
-    })
-    .collect()
-}
-
 fn named_rasters() -> Vec<Vector> {
     ROWS.iter()
-        .map(|&[code, total, active, rows, kind, _]| {
-            vector(&[NAME_RASTER, total, active, rows, kind], &[code])
-        })
+        .map(|&[code, total, active, rows, kind, _]| vector(&[NAME_RASTER, total, active, rows, kind], &[code]))
         .collect()
 }
 
@@ -321,9 +193,7 @@ fn unnamed_rasters() -> Vec<Vector> {
     ];
     counts
         .into_iter()
-        .flat_map(|[total, active, rows]| {
-            [0, 1].map(|kind| vector(&[NAME_RASTER, total, active, rows, kind], &[0]))
-        })
+        .flat_map(|[total, active, rows]| [0, 1].map(|kind| vector(&[NAME_RASTER, total, active, rows, kind], &[0])))
         .collect()
 }
 
@@ -333,23 +203,14 @@ fn picture_lines() -> Vec<Vector> {
     let progressive_750 = [(1, 1), (25, 1), (26, 0), (745, 0), (746, 1), (750, 1)];
     let progressive_1125 = [(1, 1), (41, 1), (42, 0), (1121, 0), (1122, 1), (1125, 1)];
     let first_field = [(1, 1), (20, 1), (21, 0), (560, 0), (561, 1), (563, 1)];
-    let second_field = [
-        (564, 1),
-        (583, 1),
-        (584, 0),
-        (1123, 0),
-        (1124, 1),
-        (1125, 1),
-    ];
+    let second_field = [(564, 1), (583, 1), (584, 0), (1123, 0), (1124, 1), (1125, 1)];
     let two_fields = 6..=8;
     (1..=5)
         .map(|code| (code, progressive_750, 0))
         .chain((9..=11).map(|code| (code, progressive_1125, 0)))
         .chain(two_fields.clone().map(|code| (code, first_field, 0)))
         .chain(two_fields.map(|code| (code, second_field, 1)))
-        .flat_map(|(code, lines, f)| {
-            lines.map(|(line, v)| vector(&[V_AND_F, code, line], &[0, v, f]))
-        })
+        .flat_map(|(code, lines, f)| lines.map(|(line, v)| vector(&[V_AND_F, code, line], &[0, v, f])))
         .collect()
 }
 
@@ -362,11 +223,7 @@ mod tests {
     fn every_answer_is_the_published_one() {
         for vector in all() {
             let request = format_line(&vector.request);
-            assert_eq!(
-                answer(&request),
-                Ok(format_line(&vector.answer)),
-                "{request}"
-            );
+            assert_eq!(answer(&request), Ok(format_line(&vector.answer)), "{request}");
         }
     }
 

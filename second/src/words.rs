@@ -1,7 +1,6 @@
 //! Words of ten bits, held in 16, and their bits, lowest first.
 
 use std::array::from_fn;
-use std::ops::Range;
 
 pub const WORD_BITS: usize = 10;
 
@@ -52,13 +51,6 @@ pub fn words_of(bits: &[bool]) -> Vec<u16> {
     bits.chunks(WORD_BITS).map(word_of).collect()
 }
 
-/// Where the part stands that is asked for from a place on: of as many words as asked, or as many as there are.
-pub fn part(length: usize, place: u32, count: u32) -> Range<usize> {
-    let start = length.min(place as usize);
-    let end = length.min(start + count as usize);
-    start..end
-}
-
 /// Lays words from a place of the buffer on; those that find no place are not laid.
 pub fn lay(buffer: &mut [u16], place: usize, words: &[u16]) {
     for (held, &word) in buffer.iter_mut().skip(place).zip(words) {
@@ -66,41 +58,7 @@ pub fn lay(buffer: &mut [u16], place: usize, words: &[u16]) {
     }
 }
 
-/// Lays a word so many times from a place of the buffer on; where no place is left, no more.
-pub fn lay_times(buffer: &mut [u16], place: u32, times: u32, word: u16) {
-    let places = part(buffer.len(), place, times);
-    buffer[places].fill(word);
-}
-
 /// "Beyond what a result fills, a buffer keeps what it held."
 pub fn fill(output: &mut [u16], result: &[u16]) {
     output[..result.len()].copy_from_slice(result);
-}
-
-/// Stores a word at a place of the buffer; nothing where there is no such place.
-pub fn store(buffer: &mut [u16], place: u32, word: u16) {
-    if let Some(held) = buffer.get_mut(place as usize) {
-        *held = word;
-    }
-}
-
-#[cfg(test)]
-mod tests {
-    use super::*;
-
-    #[test]
-    fn a_part_has_as_many_words_as_there_are() {
-        assert_eq!(part(5, 1, 3), 1..4);
-        assert_eq!(part(5, 3, u32::MAX), 3..5);
-        assert!(part(5, 5, 1).is_empty());
-        assert!(part(5, u32::MAX, u32::MAX).is_empty());
-    }
-
-    #[test]
-    fn words_without_a_place_are_not_laid() {
-        let mut buffer = [1, 2, 3];
-        lay(&mut buffer, 2, &[8, 9]);
-        lay(&mut buffer, 3, &[7]);
-        assert_eq!(buffer, [1, 2, 8]);
-    }
 }

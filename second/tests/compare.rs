@@ -38,8 +38,7 @@ fn said(directory: &str, words: &[&str], script: &str) -> String {
 /// What stands after the word that starts a line.
 fn after<'a>(text: &'a str, word: &str) -> &'a str {
     let line = text.lines().find_map(|line| line.strip_prefix(word));
-    line.unwrap_or_else(|| panic!("no '{word}' in {text}"))
-        .trim()
+    line.unwrap_or_else(|| panic!("no '{word}' in {text}")).trim()
 }
 
 /// How many lines `second` prints for the word.
@@ -92,10 +91,7 @@ fn answers_that_are_missing_or_too_many_are_laid_to_a_request() {
     let answers = after(&doubled, "command");
     assert!(answers.contains("(2 answers to 1 requests"), "{doubled}");
     let failed = said("failed", &words, r#""$0" answer; exit 3"#);
-    assert!(
-        after(&failed, "command").contains("exit status: 3"),
-        "{failed}"
-    );
+    assert!(after(&failed, "command").contains("exit status: 3"), "{failed}");
 }
 
 /// The fifth answer is wrong, whatever was asked.
@@ -121,11 +117,9 @@ fn the_file_that_differs_gets_small() {
 /// A count of which three bytes are missing; options without words; one word.
 #[test]
 fn the_bad_file_that_differs_gets_small() {
-    for (change, size) in [
-        ("s/file 9/file 4/", "1 bytes: "),
-        ("s/file 4/file 9/", "11 bytes: "),
-        ("s/file 3/file 9/", "17 bytes: "),
-    ] {
+    for (change, size) in
+        [("s/file 9/file 4/", "1 bytes: "), ("s/file 4/file 9/", "11 bytes: "), ("s/file 3/file 9/", "17 bytes: ")]
+    {
         let script = format!(r#""$0" bench | sed '{change}'"#);
         let text = said("bad", &["files", "1", "50"], &script);
         assert!(after(&text, "file of").starts_with(size), "{text}");
@@ -137,10 +131,7 @@ fn the_bad_file_that_differs_gets_small() {
 fn a_long_file_is_written() {
     let script = r#"cat >input; "$0" bench <input; [ $(wc -c <input) -le 5000 ] || echo more"#;
     let text = said("long", &["captures"], script);
-    assert!(
-        text.contains("file of 5001 bytes: written to difference.bench"),
-        "{text}"
-    );
+    assert!(text.contains("file of 5001 bytes: written to difference.bench"), "{text}");
     assert!(text.contains("NO SIGNAL\\n\n  more\\n\n"), "{text}");
     let file = fs::read(directory_of("long").join("difference.bench"));
     assert!(file.is_ok_and(|file| file.len() == 5001));

@@ -1,6 +1,6 @@
 //! What the captures and the frames print.
 
-use super::bench;
+use super::printed;
 use crate::generate::captures::{capture, names};
 use crate::generate::frames::{flipped, frames, slipped};
 use crate::generate::loads::{dead, jobs, noise};
@@ -29,64 +29,44 @@ const PRINTED: [(&str, &str); 4] = [
     ),
 ];
 
-fn printed(file: &[u8]) -> String {
-    let mut output = Vec::new();
-    bench(file, &mut output).expect("a list takes all that is written");
-    String::from_utf8(output).expect("lines are ASCII")
-}
-
 #[test]
 fn every_capture_prints_its_lines() {
     assert_eq!(names(), PRINTED.map(|(name, _)| name));
     for (name, expected) in PRINTED {
         let file = capture(name).expect("there is such a capture");
-        assert_eq!(printed(&file), expected, "{name}");
+        assert_eq!(printed(&*file), expected, "{name}");
         assert!(file.len() < 100_000 || name == "full-frame");
     }
 }
 
 #[test]
 fn frames_pass() {
-    for (code, seed, line) in [
-        (0, 1, " raster 7 rows 1125 faults 0 PASS\n"),
-        (1, 2, " raster 1 rows 750 faults 0 PASS\n"),
-    ] {
+    for (code, seed, line) in
+        [(0, 1, " raster 7 rows 1125 faults 0 PASS\n"), (1, 2, " raster 1 rows 750 faults 0 PASS\n")]
+    {
         let file = frames(code, 1, seed).expect("there is such a raster");
-        let printed = printed(&file);
+        let printed = printed(&*file);
         assert!(printed.ends_with(line), "{printed}");
     }
     assert!(frames(12, 1, 1).is_err());
 }
 
+/// A bit flipped in each row is a fault of each that counts; a bit lost drops each.
 #[test]
-fn a_bit_flipped_in_each_row_is_a_fault_of_each() {
+fn frames_fail_in_every_row() {
     let file = flipped(1, 1, 2).expect("there is such a raster");
-    let printed = printed(&file);
-    let line = " raster 1 rows 750 faults 750 FAIL\n";
-    assert!(printed.ends_with(line), "{printed}");
+    assert!(printed(&*file).ends_with(" raster 1 rows 750 faults 750 FAIL\n"));
     assert_eq!(file.len(), frames(1, 1, 2).expect("as above").len());
-}
-
-#[test]
-fn a_bit_lost_in_each_row_drops_each() {
     let file = slipped(1, 1, 2).expect("there is such a raster");
-    let printed = printed(&file);
-    let line = " raster 1 rows 0 faults 751 FAIL\n";
-    assert!(printed.ends_with(line), "{printed}");
+    assert!(printed(&*file).ends_with(" raster 1 rows 0 faults 751 FAIL\n"));
 }
 
 #[test]
-fn noise_and_a_dead_cable_have_no_sync() {
-    let line = " raster 7 rows 0 faults 0 NO SIGNAL\n";
+fn loads_have_no_sync_or_a_line_for_each_job() {
     for file in [noise(100_000, 1), dead(100_000)] {
-        let printed = printed(&file);
-        assert!(printed.ends_with(line), "{printed}");
+        assert!(printed(&*file).ends_with(" raster 7 rows 0 faults 0 NO SIGNAL\n"));
     }
-}
-
-#[test]
-fn many_jobs_have_a_line_each() {
     let file = jobs(300, 1);
-    assert_eq!(printed(&file).lines().count(), 300);
+    assert_eq!(printed(&*file).lines().count(), 300);
     assert!(file.len() < 300 * 1100);
 }

@@ -1,6 +1,6 @@
 //! What the files of seeds must hold, for a comparison by them to say something.
 
-use super::bench;
+use super::printed;
 use super::sections::Sections;
 use crate::generate::files::{file, kinds, File};
 use crate::raster::Raster;
@@ -20,13 +20,7 @@ fn files() -> &'static [File] {
 /// What is printed for each file.
 fn outputs() -> &'static [String] {
     static OUTPUTS: OnceLock<Vec<String>> = OnceLock::new();
-    OUTPUTS.get_or_init(|| files().iter().map(|file| output(&file.bytes)).collect())
-}
-
-fn output(file: &[u8]) -> String {
-    let mut output = Vec::new();
-    bench(file, &mut output).expect("a list takes all that is written");
-    String::from_utf8(output).expect("lines are ASCII")
+    OUTPUTS.get_or_init(|| files().iter().map(|file| printed(&*file.bytes)).collect())
 }
 
 /// Where and with which number a file is refused.
@@ -65,14 +59,6 @@ pub fn small_jobs() -> impl Iterator<Item = Job> {
 }
 
 #[test]
-fn the_same_seed_gives_the_same_file() {
-    for (seed, made) in (1..).zip(&files()[..20]) {
-        assert!(file(seed).bytes == made.bytes);
-    }
-    assert!(files()[0].bytes != files()[1].bytes);
-}
-
-#[test]
 fn most_files_are_small() {
     let mut sizes: Vec<usize> = files().iter().map(|file| file.bytes.len()).collect();
     sizes.sort_unstable();
@@ -107,13 +93,7 @@ fn every_section_is_refused_with_each_of_its_numbers() {
     let read = files().iter().map(|file| read_file(&file.bytes));
     let read: Vec<_> = read.map(|(jobs, refused)| (jobs.len(), refused)).collect();
     let refused: BTreeSet<_> = read.iter().filter_map(|(_, refused)| *refused).collect();
-    let all = [
-        ("options", 4),
-        ("options", 9),
-        ("tag", 9),
-        ("words", 3),
-        ("words", 9),
-    ];
+    let all = [("options", 4), ("options", 9), ("tag", 9), ("words", 3), ("words", 9)];
     assert_eq!(refused, BTreeSet::from(all));
     // With lines before it and without; and files without any.
     for expected in [(false, false), (false, true), (true, false), (true, true)] {

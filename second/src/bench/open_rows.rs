@@ -72,10 +72,7 @@ mod tests {
 
     fn ends(later: &[(usize, bool)], bits: usize) -> Vec<End> {
         let syncs = [&[(0, true)], later].concat();
-        let sync = |(distance, is_eav)| Sync {
-            place: START + distance,
-            is_eav,
-        };
+        let sync = |(distance, is_eav)| Sync { place: START + distance, is_eav };
         let syncs: Vec<Sync> = syncs.into_iter().map(sync).collect();
         let rows = open_rows(&syncs, T, START + bits);
         rows.iter().map(|row| row.end).collect()

@@ -1,7 +1,7 @@
 //! The rules of a bench file, each with what is printed.
 
-use super::bench;
 use super::sections::PART;
+use super::{bench, printed};
 use crate::generate::captures::capture;
 use crate::generate::cuts;
 use crate::job::Job;
@@ -9,12 +9,6 @@ use std::io::{repeat, Error, ErrorKind, Read, Result};
 
 const HUGE: u32 = 0xffff_ffff;
 const A17: &str = "A17 raster 1 rows 0 faults 0 NO SIGNAL\n";
-
-fn printed(input: impl Read) -> String {
-    let mut output = Vec::new();
-    bench(input, &mut output).expect("a list takes all that is written");
-    String::from_utf8(output).expect("lines are ASCII")
-}
 
 /// The job of the example with these words.
 fn job(words: &[u16]) -> Job {
@@ -26,10 +20,7 @@ fn assert_refused(bytes: &[u8], number: u32) {
     let good = job(&[]).bytes();
     let refused = format!("bad file {number}\n");
     assert_eq!(printed(bytes), refused, "{bytes:x?}");
-    assert_eq!(
-        printed(&*[&good, bytes].concat()),
-        A17.to_string() + &refused
-    );
+    assert_eq!(printed(&*[&good, bytes].concat()), A17.to_string() + &refused);
 }
 
 /// The same for bytes that are refused before their end.
@@ -52,14 +43,6 @@ fn the_example_prints_exactly_its_two_lines() {
 #[test]
 fn empty_input_prints_nothing() {
     assert_eq!(printed(&[][..]), "");
-}
-
-/// "Code 0 stands for 7, our local cameras, and is printed as 7."
-#[test]
-fn raster_0_is_printed_as_7() {
-    let job = Job::new("B02", 0, false, Vec::new());
-    let line = "B02 raster 7 rows 0 faults 0 NO SIGNAL\n";
-    assert_eq!(printed(&*job.bytes()), line);
 }
 
 #[test]
@@ -136,15 +119,6 @@ fn in_the_options_9_comes_before_4() {
     }
 }
 
-/// "cut short": raster and wipe are one section, in which 9 comes before 4.
-#[test]
-fn options_cut_after_a_bad_raster_are_9() {
-    let mut job = job(&[]);
-    job.options = vec![12];
-    let bytes = job.bytes_with([3, 2, 0]);
-    assert_refused(&bytes[..4 + 3 + 4 + 1], 9);
-}
-
 /// "word 3FF passes, 400 gives 3", at every place, also beyond the words that are read at once.
 #[test]
 fn words_above_3ff_are_3() {
@@ -193,10 +167,7 @@ fn of_two_sections_the_first_decides() {
 #[test]
 fn a_file_cut_at_any_byte() {
     let file = cuts::file();
-    let lines = [
-        "CUT-1 raster 1 rows 0 faults 0 SHORT\n",
-        "CUT-2 raster 7 rows 0 faults 1 FAIL\n",
-    ];
+    let lines = ["CUT-1 raster 1 rows 0 faults 0 SHORT\n", "CUT-2 raster 7 rows 0 faults 1 FAIL\n"];
     let second = file.windows(5).position(|bytes| bytes == b"CUT-2");
     let jobs = [second.expect("its tag is there") - 4, file.len()];
     for end in 0..=file.len() {

@@ -2,7 +2,6 @@
 
 use super::budget::Budget;
 use super::command::Command;
-use super::progress::Progress;
 use crate::requests::answer;
 use crate::Failure;
 use std::io::{BufRead, BufReader, Read, Write};
@@ -26,36 +25,21 @@ struct Reading {
 pub struct Judge<'a> {
     pub budget: Budget,
     command: &'a Command<'a>,
-    progress: Progress,
 }
 
 impl<'a> Judge<'a> {
     pub fn new(command: &'a Command<'a>, budget: Budget) -> Self {
-        Self {
-            budget,
-            command,
-            progress: Progress::new(),
-        }
+        Self { budget, command }
     }
 
     /// Puts the requests to one run of the command.
     pub fn first_difference(&mut self, lines: &[String]) -> Result<Option<Difference>, Failure> {
-        self.budget
-            .spend(lines.iter().map(|line| line.len() + 1).sum())?;
-        let run = self.budget.runs;
-        let mut tell = |place| {
-            let (answered, requests) = (place + 1, lines.len());
-            let text = || format!("run {run}, {answered} of {requests} requests answered");
-            self.progress.tell(text);
-        };
+        self.budget.spend(lines.iter().map(|line| line.len() + 1).sum())?;
         let (reading, status) = self.command.run(
             |stdin| lines.iter().try_for_each(|line| writeln!(stdin, "{line}")),
-            |stdout| read(lines, BufReader::new(stdout), &mut tell),
+            |stdout| read(lines, BufReader::new(stdout)),
         )?;
-        let Reading {
-            answers,
-            difference,
-        } = reading;
+        let Reading { answers, difference } = reading;
         if answers == lines.len() && status.success() {
             return Ok(difference);
         }
@@ -85,30 +69,19 @@ impl<'a> Judge<'a> {
     }
 }
 
-fn read(
-    lines: &[String],
-    mut answers: impl BufRead,
-    mut tell: impl FnMut(usize),
-) -> Result<Reading, Failure> {
+fn read(lines: &[String], mut answers: impl BufRead) -> Result<Reading, Failure> {
     let mut difference = None;
     for (place, line) in lines.iter().enumerate() {
         let Some(theirs) = next_line(&mut answers)? else {
             let answers = place;
-            return Ok(Reading {
-                answers,
-                difference,
-            });
+            return Ok(Reading { answers, difference });
         };
         if difference.is_none() && theirs != answer(line).map_err(Failure::Message)? {
             difference = Some(Difference { place, theirs });
         }
-        tell(place);
     }
     let answers = lines.len() + usize::from(next_line(&mut answers)?.is_some());
-    Ok(Reading {
-        answers,
-        difference,
-    })
+    Ok(Reading { answers, difference })
 }
 
 /// A line, or none at the end.

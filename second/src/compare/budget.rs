@@ -15,24 +15,17 @@ pub struct Budget {
 
 impl Budget {
     pub fn to_shrink() -> Self {
-        Self {
-            runs: 0,
-            left: MOST_RUNS,
-        }
+        Self { runs: 0, left: MOST_RUNS }
     }
 
     pub fn endless() -> Self {
-        Self {
-            runs: 0,
-            left: usize::MAX,
-        }
+        Self { runs: 0, left: usize::MAX }
     }
 
     /// For one run on so many bytes.
     pub fn spend(&mut self, bytes: usize) -> Result<(), Failure> {
-        let reached = format!(
-            "the bound of {MOST_RUNS} runs is reached, of which one on a long input counts as several"
-        );
+        let reached =
+            format!("the bound of {MOST_RUNS} runs is reached, of which one on a long input counts as several");
         let left = self.left.checked_sub(1 + bytes / BYTES_OF_A_RUN);
         self.left = left.ok_or(Failure::Message(reached))?;
         self.runs += 1;
@@ -49,34 +42,5 @@ impl Budget {
                 format!("shrunk in {runs} runs, not to the end: {error}")
             }
         }
-    }
-}
-
-#[cfg(test)]
-mod tests {
-    use super::*;
-
-    #[test]
-    fn long_inputs_cost_more() {
-        for (bytes, runs) in [
-            (10, 2000),
-            (249_999, 2000),
-            (250_000, 1000),
-            (10_000_000, 48),
-        ] {
-            let mut budget = Budget::to_shrink();
-            while budget.spend(bytes).is_ok() {}
-            assert_eq!(budget.runs, runs);
-        }
-    }
-
-    #[test]
-    fn a_bound_that_is_reached_is_told() {
-        let mut budget = Budget::to_shrink();
-        assert_eq!(budget.note(Ok(())), "shrunk in 0 runs");
-        let ended = (0..).try_for_each(|_| budget.spend(0));
-        let note = budget.note(ended);
-        let told = "shrunk in 2000 runs, not to the end: the bound of 2000 runs is reached";
-        assert!(note.starts_with(told), "{note}");
     }
 }

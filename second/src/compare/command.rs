@@ -38,33 +38,3 @@ impl Command<'_> {
         Ok((result?, status))
     }
 }
-
-#[cfg(test)]
-mod tests {
-    use super::*;
-    use std::io::Read;
-
-    fn printed(program: &str, arguments: &[&str], input: &[u8]) -> Result<Vec<u8>, Failure> {
-        let command = Command { program, arguments };
-        let read = |mut stdout: ChildStdout| {
-            let mut printed = Vec::new();
-            stdout.read_to_end(&mut printed)?;
-            Ok(printed)
-        };
-        Ok(command.run(|stdin| stdin.write_all(input), read)?.0)
-    }
-
-    /// More than any pipe holds, there and back.
-    #[test]
-    fn long_inputs_do_not_lock_up() {
-        let input = vec![b'x'; 3_000_000];
-        assert!(printed("cat", &[], &input).is_ok_and(|output| output == input));
-        assert!(printed("head", &["-c", "5"], &input).is_ok_and(|output| output == b"xxxxx"));
-    }
-
-    #[test]
-    fn a_program_that_there_is_not_is_named() {
-        let result = printed("./no-such-program", &[], b"");
-        assert!(matches!(result, Err(Failure::Message(text)) if text.contains("no-such-program")));
-    }
-}

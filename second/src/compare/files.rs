@@ -2,8 +2,8 @@
 
 use super::budget::Budget;
 use super::command::Command;
-use super::file_shrinking::Shrinking;
-use super::progress::Progress;
+use super::parts::Parts;
+use super::shrinking::Shrinking;
 use crate::bench::bench;
 use crate::Failure;
 use std::fs;
@@ -21,11 +21,7 @@ const MORE: usize = 256;
 const AT_ONCE: usize = 2;
 
 /// How many files give the same, which are all of them. A file has the name that `second` makes it by.
-pub fn compare(
-    mut files: impl Iterator<Item = (String, Vec<u8>)>,
-    command: &Command,
-) -> Result<usize, Failure> {
-    let mut progress = Progress::new();
+pub fn compare(mut files: impl Iterator<Item = (String, Vec<u8>)>, command: &Command) -> Result<usize, Failure> {
     let mut alike = 0;
     loop {
         let some: Vec<_> = files.by_ref().take(AT_ONCE).collect();
@@ -39,19 +35,14 @@ pub fn compare(
                 return Err(Failure::Message(report(&name, bytes, outputs, command)));
             }
             alike += 1;
-            progress.tell(|| format!("{alike} files alike, the last `second {name}`"));
         }
     }
 }
 
 /// What is printed for some files, all at once.
-fn outputs_of_each<'a>(
-    files: &'a [(String, Vec<u8>)],
-    command: &'a Command,
-) -> Vec<Result<Outputs, Failure>> {
+fn outputs_of_each<'a>(files: &'a [(String, Vec<u8>)], command: &'a Command) -> Vec<Result<Outputs, Failure>> {
     thread::scope(|scope| {
-        let start =
-            |(_, bytes): &'a (String, Vec<u8>)| scope.spawn(move || Outputs::of(bytes, command));
+        let start = |(_, bytes): &'a (String, Vec<u8>)| scope.spawn(move || Outputs::of(bytes, command));
         let runs: Vec<_> = files.iter().map(start).collect();
         let ended = |run: ScopedJoinHandle<'_, _>| run.join().expect("a run does not panic");
         runs.into_iter().map(ended).collect()
@@ -114,11 +105,9 @@ fn report(name: &str, bytes: Vec<u8>, outputs: Outputs, command: &Command) -> St
 /// Answers what is to be said of it.
 fn shrink(smallest: &mut (Vec<u8>, Outputs), command: &Command) -> String {
     let mut budget = Budget::to_shrink();
-    let mut progress = Progress::new();
     let first = smallest.0.clone();
-    let differs = |bytes: &[u8]| {
+    let mut differs = |bytes: &[u8]| {
         budget.spend(bytes.len())?;
-        progress.tell(|| format!("shrinking, run {} on {} bytes", budget.runs, bytes.len()));
         let outputs = Outputs::of(bytes, command)?;
         let differ = outputs.differ();
         if differ {
@@ -126,8 +115,39 @@ fn shrink(smallest: &mut (Vec<u8>, Outputs), command: &Command) -> String {
         }
         Ok(differ)
     };
-    let ended = Shrinking::of(&first, differs).shrink();
+    let ended = shrink_file(&first, &mut differs);
     budget.note(ended)
+}
+
+/// By its jobs; of a file that is refused the jobs need not stay whole, so it is shrunk as bytes too.
+fn shrink_file<Error>(file: &[u8], differs: &mut impl FnMut(&[u8]) -> Result<bool, Error>) -> Result<(), Error> {
+    let mut smallest = file.to_vec();
+    loop {
+        let before = smallest.clone();
+        for parts_of in [Parts::of_file, Parts::of_bytes] {
+            let parts = parts_of(&smallest);
+            if parts.jobs() == 0 && !is_bad(&smallest) {
+                continue;
+            }
+            let find = |puts: &[Vec<u8>]| {
+                for (place, put) in puts.iter().enumerate() {
+                    if differs(put)? {
+                        smallest = put.clone();
+                        return Ok(Some(place));
+                    }
+                }
+                Ok(None)
+            };
+            Shrinking::of(parts, find).shrink()?;
+        }
+        if smallest == before {
+            return Ok(());
+        }
+    }
+}
+
+fn is_bad(bytes: &[u8]) -> bool {
+    own_lines(bytes).split(|&byte| byte == b'\n').any(|line| line.starts_with(b"bad file "))
 }
 
 /// In hexadecimal, or where it is written to.
@@ -144,7 +164,5 @@ fn shown_file(bytes: &[u8]) -> String {
 /// Each line with its end, so that a missing one is seen.
 fn shown_lines(output: &[u8]) -> String {
     let lines = output.split_inclusive(|&byte| byte == b'\n');
-    lines
-        .map(|line| format!("\n  {}", line.escape_ascii()))
-        .collect()
+    lines.map(|line| format!("\n  {}", line.escape_ascii())).collect()
 }

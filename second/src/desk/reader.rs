@@ -18,21 +18,9 @@ pub enum Stage {
     WordCount,
     Low,
     High,
-    /// "stopped, after a refused byte"
+    /// After a refused byte.
     Stopped,
 }
-
-pub const STAGES: [Stage; 9] = [
-    Stage::TagCount,
-    Stage::Tag,
-    Stage::OptionCount,
-    Stage::Raster,
-    Stage::Wipe,
-    Stage::WordCount,
-    Stage::Low,
-    Stage::High,
-    Stage::Stopped,
-];
 
 #[derive(Clone, Debug, Default, PartialEq, Eq)]
 pub struct Reader {
@@ -65,16 +53,7 @@ pub struct Ended {
 }
 
 impl Reader {
-    /// "how far a desk has read"; "Of a count no byte has come."
-    pub fn numbers(&self) -> Vec<u32> {
-        let (low, raster, wipe) = (self.low.into(), self.raster.into(), self.wipe.into());
-        let read = self.tag.len() as u32;
-        let mut numbers = vec![self.stage as u32, self.left, low, raster, wipe, read];
-        numbers.extend(self.tag.iter().map(|&byte| u32::from(byte)));
-        numbers
-    }
-
-    /// "5 the count of words, 6 a word's low byte, 7 its high byte"
+    /// Whether words are read: "its options are read, and its job has not ended".
     pub fn is_in_words(&self) -> bool {
         matches!(self.stage, Stage::WordCount | Stage::Low | Stage::High)
     }
@@ -96,29 +75,10 @@ impl Reader {
             Ok(piece) => (piece, None),
             Err(refusal) => {
                 let stage = Stage::Stopped;
-                *self = Self {
-                    stage,
-                    ..Self::default()
-                };
+                *self = Self { stage, ..Self::default() };
                 (Piece::Refused(refusal), None)
             }
         }
-    }
-
-    /// Reads whole words at once, all but the section's last, refusing none: as many as the bytes have and the output has
-    /// places for. Answers how many.
-    pub fn read_words(&mut self, bytes: &[u8], output: &mut [u16]) -> usize {
-        let before_last = match self.stage {
-            Stage::Low => self.left - 1,
-            _ => 0,
-        };
-        let (words, _) = bytes.as_chunks();
-        let count = words.len().min(output.len()).min(before_last as usize);
-        for (place, &word) in output.iter_mut().zip(words).take(count) {
-            *place = u16::from_le_bytes(word);
-        }
-        self.left -= count as u32;
-        count
     }
 
     fn read(&mut self, byte: u8) -> Result<Piece, Refusal> {
@@ -187,10 +147,7 @@ impl Reader {
 
     /// "Order where several apply: [..] 9, 4": "wipe not 0 or 1" before "raster not 0..11".
     fn read_wipe(&mut self, byte: u8) -> Result<Piece, Refusal> {
-        refuse(&[
-            (Refusal::File, byte > 1),
-            (Refusal::Raster, raster_of(self.raster.into()).is_err()),
-        ])?;
+        refuse(&[(Refusal::File, byte > 1), (Refusal::Raster, raster_of(self.raster.into()).is_err())])?;
         self.wipe = byte == 1;
         self.stage = Stage::WordCount;
         Ok(Piece::Options(self.raster))
@@ -202,36 +159,5 @@ impl Reader {
         refuse(&[(Refusal::Word, !is_word(word))])?;
         self.await_word(self.left - 1);
         Ok(Piece::Word(word))
-    }
-}
-
-#[cfg(test)]
-mod tests {
-    use super::*;
-
-    /// "as if the 2n bytes had been read one by one"
-    #[test]
-    fn words_at_once_leave_the_reader_as_one_by_one() {
-        let bytes = [0xff, 0x03, 0x01, 0x00, 0x55, 0x01, 0x00];
-        for left in 1..6 {
-            let at_start = Reader {
-                stage: Stage::Low,
-                left,
-                tag: b"A".to_vec(),
-                ..Reader::default()
-            };
-            let (mut at_once, mut one_by_one) = (at_start.clone(), at_start);
-            let mut output = [0xfade; 4];
-            let count = at_once.read_words(&bytes, &mut output);
-            assert_eq!(count, 3.min(left as usize - 1));
-            let pieces = bytes[..2 * count].iter().map(|&byte| one_by_one.take(byte));
-            let words = pieces.filter_map(|(piece, _)| match piece {
-                Piece::Word(word) => Some(word),
-                _ => None,
-            });
-            assert!(words.eq(output[..count].iter().copied()));
-            assert!(output[count..].iter().all(|&word| word == 0xfade));
-            assert_eq!(at_once, one_by_one);
-        }
     }
 }

@@ -1,6 +1,6 @@
 //! Requests for the functions of a bench file.
 
-use super::desks::{self, buffers, lent, shorten, Lent};
+use super::desks::{buffers, lent, shorten, Lent};
 use super::files::{short_file, tag};
 use super::long_sections::{across, marked, CODE, FEW, RUN};
 use super::row_requests::both;
@@ -17,21 +17,12 @@ const MOST_BYTES: usize = 14_000;
 const MOST_WORDS: usize = 6900;
 
 impl Generator {
-    pub(super) fn read_bytes(&mut self) -> Request {
-        let most = self.random.pick(&[20, 20, 20, 20, 20, 20, 20, 300]);
-        let mut file = any_file(&mut self.random, most);
-        if file.is_empty() {
-            file.push(0);
-        }
-        request(&[&[READ_BYTES], &byte_list(&file)])
-    }
-
     pub(super) fn desk(&mut self) -> Request {
         let random = &mut self.random;
         let (file, lengths) = match random.below(25) {
             0 => cut_anywhere(random, file_with_rows),
             1 => cut_anywhere(random, |random| any_file(random, 2000)),
-            2 | 3 => about_a_run(random),
+            2..=5 => about_a_run(random),
             _ => cut_anywhere(random, |random| any_file(random, 60)),
         };
         let mut buffers = buffers(random);
@@ -42,30 +33,9 @@ impl Generator {
     }
 
     pub(super) fn take(&mut self) -> Request {
-        let Lent {
-            reader,
-            numbers,
-            bytes,
-            buffers,
-        } = lent(&mut self.random);
-        let desk = [&reader.numbers()[..], &numbers.list()].concat();
-        request(&[&[TAKE], &desk, &byte_list(&bytes), &both(&buffers)])
-    }
-
-    /// Words of any number below 2^16, the last of them now and then without its high byte.
-    pub(super) fn read_words(&mut self) -> Request {
-        let random = &mut self.random;
-        let count = lists::length(random);
-        let reader = desks::reader(random, count as u32);
-        let mut bytes: Vec<u8> = (0..count)
-            .flat_map(|_| lists::any_word(random).to_le_bytes())
-            .collect();
-        if random.one_in(3) {
-            bytes.pop();
-        }
-        let output = lists::output(random, count);
-        let lent = [byte_list(&bytes), list(&output)].concat();
-        request(&[&[READ_WORDS], &reader.numbers(), &lent])
+        let Lent { lengths, bytes, numbers, buffers } = lent(&mut self.random);
+        let taken = [list(&lengths), byte_list(&bytes)].concat();
+        request(&[&[TAKE], &taken, &numbers.list(), &both(&buffers)])
     }
 
     pub(super) fn outcome_line(&mut self) -> Request {
@@ -139,7 +109,7 @@ fn few_from(random: &mut Random, first: usize) -> Vec<u16> {
 
 /// A section of about a run of words or two, a take that ends about where they do, and perhaps a bad word or a cut there.
 fn about_a_run(random: &mut Random) -> (Vec<u8>, Vec<u16>) {
-    let end = random.pick(&[FEW, RUN, RUN, 2 * RUN]);
+    let end = random.pick(&[FEW, FEW, RUN, RUN, 2 * RUN]);
     let count = end + random.place(6) - 2;
     let last = count * WORD_BITS - random.pick(&[SYNC_BITS, CODE, 300]);
     let before = random.place(CODE);

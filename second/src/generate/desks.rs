@@ -1,93 +1,71 @@
-//! How far desks have read, the sessions that they have, and what they are lent.
+//! Takes of desks that have read so far and get another session.
 
 use super::files::{short_file, tag};
 use super::long_sections::length;
 use super::session_requests::{any_feed, Feed};
 use super::{code_feeds, lists, sessions, signals};
-use crate::desk::{Desk, Reader, Stage, STAGES};
+use crate::desk::{longest_row, Desk};
+use crate::job::Job;
 use crate::random::Random;
+use crate::requests::desks::desk_after;
 use crate::session::Numbers;
 
-/// What a take gets.
+/// What a take gets, and the bytes that were taken before.
 pub struct Lent {
-    pub reader: Reader,
-    pub numbers: Numbers,
+    /// How many bytes each take before is lent.
+    pub lengths: Vec<u16>,
     pub bytes: Vec<u8>,
+    pub numbers: Numbers,
     pub buffers: [Vec<u16>; 2],
 }
 
-/// "fewer than 4,125 words" are too few.
-const ENOUGH: usize = 4125;
-
 pub fn lent(random: &mut Random) -> Lent {
-    let mut lent = if random.bit() {
-        in_a_job(random)
-    } else {
-        in_a_file(random)
-    };
-    if lent.reader.stage == Stage::Wipe && random.one_in(3) {
-        lent.reader.raster = random.below(0x100) as u8;
-    }
-    if !lent.reader.is_in_words() {
-        lent.numbers = any_session(random);
-    } else if random.one_in(8) {
-        lent.numbers = refused_session(random);
-    }
+    let mut lent = if random.bit() { in_a_job(random) } else { in_a_file(random) };
     if random.one_in(10) {
         shorten(random, &mut lent.buffers);
     }
     lent
 }
 
-/// A file that was read to some byte, each stage as often where it comes at all, and its other bytes, or some of them.
+/// A file that was read to any byte, often to one of its first sections or amid its first options, and its other bytes.
 fn in_a_file(random: &mut Random) -> Lent {
-    let file = short_file(random, 30);
-    let mut buffers = buffers(random);
-    let mut read = readings(&file, &mut buffers);
-    let come = |stage: &Stage| read.iter().any(|(desk, _)| desk.reader.stage == *stage);
-    let stages: Vec<Stage> = STAGES.into_iter().filter(come).collect();
-    let wanted = random.pick(&stages);
-    read.retain(|(desk, _)| desk.reader.stage == wanted);
-    let (last, any) = (read.len() - 1, random.place(read.len()));
-    let (desk, place) = read.swap_remove(random.pick(&[last, any]));
-    let mut bytes = file[place..].to_vec();
-    if random.one_in(4) {
-        bytes.truncate(random.place(bytes.len() + 1));
-    }
-    if random.one_in(6) {
-        let any = random.below(0x100) as u8;
-        bytes.iter_mut().take(1).for_each(|byte| *byte = any);
-    }
-    Lent {
-        numbers: desk.numbers(),
-        reader: desk.reader,
-        bytes,
-        buffers,
+    let bytes = short_file(random, 30);
+    let options = 8 + bytes.first().copied().map_or(0, usize::from);
+    let places = [random.place(bytes.len() + 1), random.place(26), options + random.place(3)];
+    let place = random.pick(&places).min(bytes.len());
+    let lengths = takes_to(random, &bytes, place);
+    let (desk, _) = desk_after(&lengths, &bytes);
+    Lent { numbers: session(random, &desk, desk.numbers()), lengths, bytes, buffers: buffers(random) }
+}
+
+/// This session where words are read, or one that is refused; else any at all.
+fn session(random: &mut Random, desk: &Desk, numbers: Numbers) -> Numbers {
+    let in_words = desk.reader.is_in_words();
+    match random.below(16) {
+        0..=13 if in_words => numbers,
+        0..=3 => Numbers::default(),
+        4..=7 => sessions::open(random),
+        8..=11 | 14 => sessions::closed(random),
+        _ => sessions::out_of_range(random),
     }
 }
 
-/// The desk after each byte of a file, with how many have come: "Of a count no byte has come."
-fn readings(file: &[u8], buffers: &mut [Vec<u16>; 2]) -> Vec<(Desk, usize)> {
-    let mut desk = Desk::default();
-    let mut read = vec![(Desk::default(), 0)];
-    for (place, &byte) in file.iter().enumerate() {
-        let [y, c] = buffers.each_mut().map(Vec::as_mut_slice);
-        let taken = desk.take(&[byte], &mut [y, c]);
-        taken.expect("nothing is refused");
-        if desk.reader.count.is_empty() {
-            read.push((Desk::of(desk.reader.clone(), desk.numbers()), place + 1));
+/// Takes of all bytes up to a place, cut anywhere; a take ends with a job.
+fn takes_to(random: &mut Random, file: &[u8], place: usize) -> Vec<u16> {
+    let mut lengths = Vec::new();
+    loop {
+        let (_, left) = desk_after(&lengths, &file[..place]);
+        if left.is_empty() {
+            return lengths;
         }
+        let any = random.place(left.len() + 1);
+        lengths.push(random.pick(&[left.len(), left.len(), any]) as u16);
     }
-    read
 }
 
 /// A session in the middle of a row, its words as a job's, which ends with them, before them or later.
 fn in_a_job(random: &mut Random) -> Lent {
-    let Feed {
-        numbers,
-        mut words,
-        mut buffers,
-    } = feed_of_a_job(random);
+    let Feed { numbers, mut words, mut buffers } = feed_of_a_job(random);
     words.truncate(2000);
     if random.one_in(20) {
         lengthen(random, &mut words);
@@ -96,30 +74,39 @@ fn in_a_job(random: &mut Random) -> Lent {
     if random.one_in(6) {
         lists::damage(random, &mut words);
     }
-    let count = words.len() as u32;
-    let any = random.below(count + 1);
-    let count = random.pick(&[count, count, count, count + 1, any, u32::MAX]);
-    let mut bytes = count.to_le_bytes().to_vec();
-    bytes.extend(words.iter().flat_map(|word| word.to_le_bytes()));
-    let mut reader = before_words(random, &numbers);
-    // None of the count, all of it, or the first word's low byte too.
-    let read = random.pick(&[0, 4, 4, 5, 5]);
-    if count > 0 && bytes.len() >= read {
-        bytes.drain(..read).for_each(|byte| drop(reader.take(byte)));
+    let (bytes, place) = job_of(random, numbers.raster, &words);
+    for buffer in &mut buffers {
+        let length = longest_row().max(buffer.len());
+        buffer.resize(length, lists::any_word(random));
     }
+    let lengths = takes_to(random, &bytes, place);
+    let (desk, _) = desk_after(&lengths, &bytes);
+    Lent { numbers: session(random, &desk, numbers), lengths, bytes, buffers }
+}
+
+/// The bytes of a job that ends with these words, before them or later, and the place from which on they are read with the
+/// session that they were made for.
+fn job_of(random: &mut Random, raster: u32, words: &[u16]) -> (Vec<u8>, usize) {
+    // "Code 0 stands for 7".
+    let asked = if raster == 7 { 0 } else { raster };
+    let options = [random.pick(&[raster, asked]) as u8, random.bit().into()];
+    let before = vec![0x155; random.pick(&[0, 0, 0, 1, 2])];
+    let job = Job { tag: tag(random).into_bytes(), options: options.to_vec(), words: [&before[..], words].concat() };
+    let all = job.words.len() as u32;
+    let any = random.between(before.len() as u32, all);
+    let count = random.pick(&[all, all, all, all + 1, any, u32::MAX]);
+    let [tag, options, _] = job.counts();
+    let mut bytes = job.bytes_with([tag, options, count]);
+    let start = bytes.len() - 2 * job.words.len();
+    // From the options' end, amid the count, after it, or after a word's low byte.
+    let amid = random.place(4);
+    let from = random.pick(&[start - 4, start - 4 + amid, start, start, start + 1, start + 1]);
+    let place = if before.is_empty() { from } else { start + 2 * before.len() + random.place(2) };
     if random.one_in(3) {
         bytes.extend(short_file(random, 10));
     }
-    for buffer in &mut buffers {
-        let length = ENOUGH.max(buffer.len());
-        buffer.resize(length, lists::any_word(random));
-    }
-    Lent {
-        reader,
-        numbers,
-        bytes,
-        buffers,
-    }
+    let place = place.min(bytes.len());
+    (bytes, place)
 }
 
 fn feed_of_a_job(random: &mut Random) -> Feed {
@@ -140,69 +127,11 @@ fn lengthen(random: &mut Random, words: &mut Vec<u16>) {
     words.splice(0..0, pairs);
 }
 
-/// A reader of a job that has this session, before the count of its words.
-fn before_words(random: &mut Random, numbers: &Numbers) -> Reader {
-    let raster = numbers.raster as u8;
-    // "Code 0 stands for 7".
-    let asked = if raster == 7 { 0 } else { raster };
-    Reader {
-        stage: Stage::WordCount,
-        raster: random.pick(&[raster, asked]),
-        wipe: random.bit(),
-        tag: tag(random).into_bytes(),
-        ..Reader::default()
-    }
-}
-
-/// How far a desk has read that is lent so many words: mostly to a word of which about as many are left.
-pub fn reader(random: &mut Random, lent: u32) -> Reader {
-    if random.one_in(4) {
-        return in_a_file(random).reader;
-    }
-    let any = random.number().max(1);
-    let few = random.between(1, 3);
-    let about = [
-        few,
-        lent.max(1),
-        lent + 1,
-        lent + 1,
-        lent + 2,
-        any,
-        u32::MAX,
-    ];
-    Reader {
-        stage: Stage::Low,
-        left: random.pick(&about),
-        raster: random.below(12) as u8,
-        wipe: random.bit(),
-        tag: tag(random).into_bytes(),
-        ..Reader::default()
-    }
-}
-
-/// One that counts for nothing: any at all.
-fn any_session(random: &mut Random) -> Numbers {
-    match random.below(4) {
-        0 => Numbers::default(),
-        1 => sessions::open(random),
-        _ => refused_session(random),
-    }
-}
-
-/// Closed, or out of range.
-fn refused_session(random: &mut Random) -> Numbers {
-    if random.bit() {
-        sessions::closed(random)
-    } else {
-        sessions::out_of_range(random)
-    }
-}
-
 /// Buffers that are long enough.
 pub fn buffers(random: &mut Random) -> [Vec<u16>; 2] {
     [(); 2].map(|()| {
-        let more = random.pick(&[0, 0, 0, 1, 100, 20_000 - ENOUGH]);
-        lists::buffer_of_runs(random, ENOUGH + more)
+        let more = random.pick(&[0, 0, 0, 1, 100, 20_000 - longest_row()]);
+        lists::buffer_of_runs(random, longest_row() + more)
     })
 }
 
@@ -210,8 +139,8 @@ pub fn buffers(random: &mut Random) -> [Vec<u16>; 2] {
 pub fn shorten(random: &mut Random, buffers: &mut [Vec<u16>; 2]) {
     let channels = random.pick(&[&[0][..], &[1], &[0, 1]]);
     for &channel in channels {
-        let any = random.place(ENOUGH);
-        let length = random.pick(&[ENOUGH - 1, ENOUGH - 1, 2750, 0, any]);
+        let any = random.place(longest_row());
+        let length = random.pick(&[longest_row() - 1, longest_row() - 1, 2750, 0, any]);
         buffers[channel].truncate(length);
     }
 }

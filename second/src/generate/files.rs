@@ -84,10 +84,7 @@ impl Notes {
 /// The same seed, the same file.
 pub fn file(seed: u64) -> File {
     let random = &mut Random::new(seed);
-    let mut notes = Notes {
-        kinds: Vec::new(),
-        turn: seed,
-    };
+    let mut notes = Notes { kinds: Vec::new(), turn: seed };
     let jobs = jobs(random, &mut notes);
     let mut bytes: Vec<u8> = jobs.iter().flat_map(Job::bytes).collect();
     if !random.one_in(4) {
@@ -95,10 +92,7 @@ pub fn file(seed: u64) -> File {
         notes.turn = seed;
         bytes.extend(bad_end(random, most, &mut notes));
     }
-    File {
-        bytes,
-        kinds: notes.kinds,
-    }
+    File { bytes, kinds: notes.kinds }
 }
 
 /// A bad job of at most so many words, and perhaps another job.
@@ -161,16 +155,9 @@ fn in_two(random: &mut Random, mut module: Module, notes: &mut Notes) -> Vec<Mod
     notes.note(IN_TWO_JOBS);
     let last = module.words.len() - 1;
     // Also in the first EAV, or in the last.
-    let places = [
-        random.place(last),
-        random.place(12),
-        last.saturating_sub(random.place(30)),
-    ];
+    let places = [random.place(last), random.place(12), last.saturating_sub(random.place(30))];
     let place = random.pick(&places);
-    let second = Module {
-        code: module.code,
-        words: module.words.split_off(place.min(last)),
-    };
+    let second = Module { code: module.code, words: module.words.split_off(place.min(last)) };
     vec![module, second]
 }
 

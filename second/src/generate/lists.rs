@@ -2,14 +2,9 @@
 
 use crate::random::Random;
 
-const EDGES: [u16; 16] = [
-    0x000, 0x001, 0x002, 0x003, 0x004, 0x040, 0x0ff, 0x100, 0x1ff, 0x200, 0x3fb, 0x3fc, 0x3fd,
-    0x3fe, 0x3ff, 0x3ff,
-];
-const ABOVE: [u16; 9] = [
-    0x400, 0x400, 0x401, 0x7ff, 0x800, 0x8000, 0xfc00, 0xfffe, 0xffff,
-];
-const LONG_PLACES: [u32; 4] = [0x1_0000, 0x1_0001, 0x8000_0000, 0xffff_ffff];
+const EDGES: [u16; 16] =
+    [0x000, 0x001, 0x002, 0x003, 0x004, 0x040, 0x0ff, 0x100, 0x1ff, 0x200, 0x3fb, 0x3fc, 0x3fd, 0x3fe, 0x3ff, 0x3ff];
+const ABOVE: [u16; 9] = [0x400, 0x400, 0x401, 0x7ff, 0x800, 0x8000, 0xfc00, 0xfffe, 0xffff];
 
 /// A word of at most 3FF.
 pub fn word(random: &mut Random) -> u16 {
@@ -37,16 +32,6 @@ pub fn any_word(random: &mut Random) -> u16 {
     }
 }
 
-/// Around the reserved codes, and numbers whose low ten bits are one.
-pub fn near_reserved(random: &mut Random) -> u16 {
-    let low = random.pick(&[0, 1, 2, 3, 4, 5, 0x3fa, 0x3fb, 0x3fc, 0x3fd, 0x3fe, 0x3ff]);
-    match random.below(3) {
-        0 => low,
-        1 => low | random.short(0, 0x3f) << 10,
-        _ => any_word(random),
-    }
-}
-
 pub fn history(random: &mut Random) -> u16 {
     match random.below(6) {
         0 => 0,
@@ -60,14 +45,7 @@ pub fn register(random: &mut Random) -> u32 {
     match random.below(6) {
         0 => 0,
         1 => random.pick(&[0x3fffe, 0x3ffff, 0x20000, 0x23000]),
-        2 => random.pick(&[
-            0x40000,
-            0x40001,
-            0x7ffff,
-            0x8000_0000,
-            0xffff_fffe,
-            0xffff_ffff,
-        ]),
+        2 => random.pick(&[0x40000, 0x40001, 0x7ffff, 0x8000_0000, 0xffff_fffe, 0xffff_ffff]),
         3 => random.number(),
         _ => random.below(0x40000),
     }
@@ -114,7 +92,7 @@ pub fn damage(random: &mut Random, words: &mut [u16]) {
 }
 
 /// What a lent buffer may hold: anything below 2^16.
-pub fn content(random: &mut Random, count: usize) -> Vec<u16> {
+fn content(random: &mut Random, count: usize) -> Vec<u16> {
     (0..count).map(|_| random.short(0, 0xffff)).collect()
 }
 
@@ -148,17 +126,5 @@ fn output_length(random: &mut Random, words: usize) -> usize {
         4 | 5 => words,
         6 => words + 1,
         _ => words + random.place(20),
-    }
-}
-
-/// A place in, at the edge of or beyond a buffer of so many words.
-pub fn place(random: &mut Random, count: u32) -> u32 {
-    match random.below(8) {
-        0 => 0,
-        1 => count.saturating_sub(1),
-        2 => count,
-        3 => count + random.between(1, 3),
-        4 => random.pick(&LONG_PLACES),
-        _ => random.below(count + 1),
     }
 }

@@ -1,6 +1,5 @@
 //! Regions with packets laid in them: whole, cut, touching the end, reaching over it, at the border.
 
-use super::lists;
 use super::pieces::{bait, other_pair, packet, piece, Pair};
 use crate::packet::MARKER;
 use crate::random::Random;
@@ -14,27 +13,14 @@ pub fn lay_pieces(random: &mut Random, words: &mut [u16], region: &Range<usize>,
     let tidy = random.bit();
     let mut free = region.start;
     for _ in 0..random.pick(&[0, 1, 1, 2, 2, 3]) {
-        let pair = if random.below(2) < share {
-            wanted
-        } else {
-            other_pair(random, wanted)
-        };
-        let (place, piece) = if tidy {
-            (free, packet(random, pair))
-        } else {
-            untidy(random, region, pair, free)
-        };
+        let pair = if random.below(2) < share { wanted } else { other_pair(random, wanted) };
+        let (place, piece) = if tidy { (free, packet(random, pair)) } else { untidy(random, region, pair, free) };
         lay(words, place, &piece);
         free = place + piece.len();
     }
 }
 
-fn untidy(
-    random: &mut Random,
-    region: &Range<usize>,
-    pair: Pair,
-    free: usize,
-) -> (usize, Vec<u16>) {
+fn untidy(random: &mut Random, region: &Range<usize>, pair: Pair, free: usize) -> (usize, Vec<u16>) {
     if random.one_in(5) {
         let place = before(region.end, random.between(8, 270));
         (place, bait(random, pair))
@@ -62,24 +48,12 @@ fn before(place: usize, distance: u32) -> usize {
     place.saturating_sub(distance as usize)
 }
 
-/// A region alone: blanking or any other words with pieces laid in it, some far apart, or many markers one upon the other.
-pub fn region(random: &mut Random, wanted: Pair) -> Vec<u16> {
-    match random.below(8) {
-        0 | 1 => return crowded(random),
-        2 | 3 => return spaced(random, wanted),
-        _ => {}
-    }
-    let length = match random.below(6) {
-        0 => random.below(8),
-        1..=3 => random.between(8, 70),
-        _ => random.between(71, 330),
-    };
-    let any = lists::word(random);
-    let background = random.pick(&[0x040, 0x200, 0x000, 0x3ff, any]);
-    let mut words = vec![background; length as usize];
-    let all = 0..words.len();
-    lay_pieces(random, &mut words, &all, wanted);
-    words
+/// Lays many markers one upon the other, or packets far apart, at the start of a region or at its end.
+pub fn lay_crowd(random: &mut Random, words: &mut [u16], region: &Range<usize>, wanted: Pair) {
+    let mut crowd = if random.bit() { crowded(random) } else { spaced(random, wanted) };
+    crowd.truncate(region.len());
+    let place = random.pick(&[region.start, region.end - crowd.len()]);
+    lay(words, place, &crowd);
 }
 
 /// Words of which most belong to a marker.
@@ -109,11 +83,11 @@ fn spaced(random: &mut Random, wanted: Pair) -> Vec<u16> {
     words
 }
 
-/// Up to some tens of words, all the same, also one whose low ten bits are those of 000.
+/// Up to some tens of words, all the same.
 fn stretch(random: &mut Random, words: &mut Vec<u16>) {
     let length = words.len() + random.place(52);
     let any = random.short(0x001, 0x3ff);
-    words.resize(length, random.pick(&[0x040, 0x200, 0x400, any]));
+    words.resize(length, random.pick(&[0x040, 0x200, any]));
 }
 
 /// Changes one word, mostly one that begins a run, for such words are seldom blanking.

@@ -2,8 +2,8 @@
 
 use super::faults::{spoil_parts, spoil_row, Parts};
 use super::pieces::pair;
-use super::rows::{head, row, Row};
-use super::{lists, rasters, regions, request, Generator, Request};
+use super::rows::{row, Row};
+use super::{lists, request, Generator, Request};
 use crate::functions::*;
 use crate::runs::runs;
 use crate::search;
@@ -56,9 +56,7 @@ impl Generator {
         let wanted = pair(random);
         let Row { head, words } = row(random, wanted);
         let layout = head.layout();
-        let active = words
-            .each_ref()
-            .map(|words| words[layout.active()].to_vec());
+        let active = words.each_ref().map(|words| words[layout.active()].to_vec());
         let blanking = words.map(|words| {
             let first = random.place(layout.blanking().len() + 1);
             let laid = random.pick(&[0, first, first.min(40), layout.blanking().len()]);
@@ -68,48 +66,9 @@ impl Generator {
             let more = random.pick(&[0, 0, 1, 5]);
             lists::buffer_of_runs(random, layout.total() + more)
         });
-        let mut parts = Parts {
-            head,
-            active,
-            blanking,
-            buffers,
-        };
+        let mut parts = Parts { head, active, blanking, buffers };
         spoil_parts(random, &mut parts);
         build_request(&parts)
-    }
-
-    /// A row that nothing is refused of, half of the time with words above 3FF, which often look like those they stand for.
-    pub(super) fn any_words(&mut self) -> Row {
-        let random = &mut self.random;
-        let wanted = pair(random);
-        let mut row = row(random, wanted);
-        if random.bit() {
-            for _ in 0..random.between(1, 4) {
-                let high = random.short(1, 0x3f) << 10;
-                let words = &mut row.words[random.place(2)];
-                regions::change_a_word(random, words, |word| word | high);
-            }
-        }
-        row
-    }
-
-    pub(super) fn judge_row(&mut self) -> Request {
-        let Row { head, words } = self.any_words();
-        let numbers = [JUDGE_ROW, head.code, head.line];
-        request(&[&numbers, &head.carry_numbers(), &both(&words)])
-    }
-
-    pub(super) fn row_refusal(&mut self) -> Request {
-        let Row { head, words } = self.any_row();
-        request(&[&[ROW_REFUSAL, head.code, head.line], &both(&words)])
-    }
-
-    pub(super) fn row_layout(&mut self) -> Request {
-        let random = &mut self.random;
-        let head = head(random);
-        let any = [rasters::code(random), rasters::line(random)];
-        let [code, line] = random.pick(&[any, [head.code, head.line]]);
-        vec![ROW_LAYOUT, code, line]
     }
 }
 
@@ -118,12 +77,7 @@ pub fn both(words: &[Vec<u16>; 2]) -> Request {
 }
 
 fn build_request(parts: &Parts) -> Request {
-    let Parts {
-        head,
-        active,
-        blanking,
-        buffers,
-    } = parts;
+    let Parts { head, active, blanking, buffers } = parts;
     let numbers = [BUILD_ROW, head.code, head.line];
     let words = [active, blanking, buffers].map(both).concat();
     request(&[&numbers, &head.carry_numbers(), &words])

@@ -1,7 +1,7 @@
 //! Rows that are read: right, and damaged in every way that a flag tells of.
 
 use super::pieces::Pair;
-use super::regions::{change_a_word, lay_pieces};
+use super::regions::{change_a_word, lay_crowd, lay_pieces};
 use super::{lists, rasters};
 use crate::check::right_crc;
 use crate::correct::correct;
@@ -110,12 +110,12 @@ fn channel(random: &mut Random, layout: &Layout, blanking: u16, wanted: Pair) ->
 /// In the blanking, or in the active words: where V = 0 a packet's codes are reserved there, so it comes seldom.
 fn lay_in_a_region(random: &mut Random, layout: &Layout, words: &mut [u16], wanted: Pair) {
     let in_active = random.one_in(if layout.v { 2 } else { 12 });
-    let region = if in_active {
-        layout.active()
+    let region = if in_active { layout.active() } else { layout.blanking() };
+    if random.one_in(3) {
+        lay_crowd(random, words, &region, wanted);
     } else {
-        layout.blanking()
-    };
-    lay_pieces(random, words, &region, wanted);
+        lay_pieces(random, words, &region, wanted);
+    }
 }
 
 /// The CRC words that the carry asks for; 200 200 where there is none.
@@ -142,9 +142,7 @@ pub fn damage(random: &mut Random, layout: &Layout, row: &mut Row) {
     }
 }
 
-const RESERVED_OR_NEAR: [u16; 10] = [
-    0x000, 0x001, 0x002, 0x003, 0x004, 0x3fb, 0x3fc, 0x3fd, 0x3fe, 0x3ff,
-];
+const RESERVED_OR_NEAR: [u16; 10] = [0x000, 0x001, 0x002, 0x003, 0x004, 0x3fb, 0x3fc, 0x3fd, 0x3fe, 0x3ff];
 
 /// One of a few words changed, in a bit or wholly.
 fn damage_part(random: &mut Random, part: &mut [u16]) {

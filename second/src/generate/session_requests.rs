@@ -68,19 +68,9 @@ impl Feed {
     /// One that is not refused.
     fn unspoilt(mut self, random: &mut Random) -> Request {
         let to_scramble = self.scramble(random);
-        self.of(FEED, to_scramble)
-    }
-
-    /// Words that are fed refusing nothing, also where they are above 3FF.
-    pub fn unrefused(mut self, random: &mut Random) -> Request {
-        let to_scramble = self.scramble(random);
-        if !to_scramble && random.bit() {
-            for _ in 0..random.between(1, 3) {
-                let high = random.short(1, 0x3f) << 10;
-                regions::change_a_word(random, &mut self.words, |word| word | high);
-            }
-        }
-        self.of(TAKE_WORDS, to_scramble)
+        let [y, c] = self.buffers.map(|buffer| runs(&buffer));
+        let signal = runs::signal(to_scramble, &self.words);
+        request(&[&[FEED], &self.numbers.list(), &signal, &y, &c])
     }
 
     /// Scrambles the words if they are few and can be; answers whether that is still to be done.
@@ -93,12 +83,6 @@ impl Feed {
             self.words = signals::scrambled_words(history, &self.words);
         }
         to_scramble
-    }
-
-    fn of(self, function: u32, to_scramble: bool) -> Request {
-        let [y, c] = self.buffers.map(|buffer| runs(&buffer));
-        let signal = runs::signal(to_scramble, &self.words);
-        request(&[&[function], &self.numbers.list(), &signal, &y, &c])
     }
 
     /// What is refused, one or more at once.
@@ -157,15 +141,11 @@ fn feed_in_a_row(random: &mut Random) -> Feed {
     if numbers.line == 0 && random.bit() {
         spoil_line_words(random, &mut buffers[Y]);
     }
-    Feed {
-        numbers,
-        words: signals::whole_words(&bits[cut..]),
-        buffers,
-    }
+    Feed { numbers, words: signals::whole_words(&bits[cut..]), buffers }
 }
 
 /// A row that has no flag, often of the last line, or one that may have any.
-pub fn any_row(random: &mut Random) -> Row {
+fn any_row(random: &mut Random) -> Row {
     if random.bit() {
         let mut head = head(random);
         if random.one_in(6) {
@@ -194,9 +174,12 @@ pub fn fill_buffers(random: &mut Random, buffers: &mut [Vec<u16>; 2], place: usi
             let word = lists::any_word(random);
             buffer.iter_mut().skip(place).for_each(|held| *held = word);
         }
-        if random.one_in(6) {
-            let high = random.short(1, 0x3f) << 10;
-            regions::change_a_word(random, buffer, |word| word | high);
+        // Only here words above 3FF come to be judged.
+        if random.one_in(4) {
+            for _ in 0..random.between(1, 3) {
+                let high = random.short(1, 0x3f) << 10;
+                regions::change_a_word(random, buffer, |word| word | high);
+            }
         }
         if random.one_in(6) {
             let more = buffer.len() + random.pick(&[1, 2, 7, 1000]);
@@ -206,7 +189,7 @@ pub fn fill_buffers(random: &mut Random, buffers: &mut [Vec<u16>; 2], place: usi
 }
 
 /// Line words that are not exact, or are those of another line.
-pub fn spoil_line_words(random: &mut Random, y: &mut [u16]) {
+fn spoil_line_words(random: &mut Random, y: &mut [u16]) {
     let place = random.pick(&[LINE.start, LINE.end - 1]);
     let bit = 1 << random.below(10);
     match random.below(4) {
@@ -228,9 +211,5 @@ fn short_feed(random: &mut Random) -> Feed {
         let more = random.pick(&[0, 0, 0, 1, 9]);
         lists::buffer_of_runs(random, total + more)
     });
-    Feed {
-        numbers,
-        words: signals::whole_words(&bits[cut..]),
-        buffers,
-    }
+    Feed { numbers, words: signals::whole_words(&bits[cut..]), buffers }
 }

@@ -38,10 +38,7 @@ fn a_desk_tells_what_bench_prints() {
         let mut printed = Vec::new();
         bench(&file[..], &mut printed).expect("a list takes all that is written");
         for part in [usize::MAX, 1 + seed as usize * 37 % 5000] {
-            assert!(
-                lines(&file, part) == printed,
-                "file {seed} in parts of {part}"
-            );
+            assert!(lines(&file, part) == printed, "file {seed} in parts of {part}");
         }
         compared += 1;
     }

@@ -1,27 +1,13 @@
 //! The functions of a module session.
 
-use super::{list, refusable, unknown, Answer};
+use super::{list, refusable, Answer};
 use crate::arguments::Arguments;
-use crate::functions::*;
 use crate::refusal::Refusal;
 use crate::runs::runs;
 use crate::session::{Numbers, Report, Session};
 
-pub fn call(function: u32, arguments: &mut Arguments) -> Answer {
-    match function {
-        BEGIN => begin(arguments),
-        FEED => feed(arguments),
-        END => end(arguments),
-        MODULE => module(arguments),
-        _ => unknown(function),
-    }
-}
-
 /// A call on a session: what it answers, and the session afterwards, which a refused call leaves "as it is".
-fn called<T>(
-    numbers: Numbers,
-    call: impl FnOnce(&mut Session) -> Result<T, Refusal>,
-) -> (Result<T, Refusal>, Numbers) {
+fn called<T>(numbers: Numbers, call: impl FnOnce(&mut Session) -> Result<T, Refusal>) -> (Result<T, Refusal>, Numbers) {
     let result = numbers.session().and_then(|mut session| {
         let answered = call(&mut session)?;
         Ok((answered, session.numbers()))
@@ -33,26 +19,24 @@ fn called<T>(
 }
 
 /// "refusal, SESSION"
-fn begin(arguments: &mut Arguments) -> Answer {
+pub fn begin(arguments: &mut Arguments) -> Answer {
     let (numbers, code) = (arguments.session()?, arguments.number()?);
     let (result, numbers) = called(numbers, |session| session.begin(code));
     Ok([&refusable(result.map(|()| []))[..], &numbers.list()].concat())
 }
 
 /// "refusal, SESSION, RUNS Y, RUNS C"
-fn feed(arguments: &mut Arguments) -> Answer {
+pub fn feed(arguments: &mut Arguments) -> Answer {
     let numbers = arguments.session()?;
     let words = arguments.signal(numbers.history)?;
     let [mut y, mut c] = [arguments.runs()?, arguments.runs()?];
-    let (result, numbers) = called(numbers, |session| {
-        session.feed(&words, &mut [&mut y, &mut c])
-    });
+    let (result, numbers) = called(numbers, |session| session.feed(&words, &mut [&mut y, &mut c]));
     let refusal = refusable(result.map(|()| []));
     Ok([&refusal[..], &numbers.list(), &runs(&y), &runs(&c)].concat())
 }
 
 /// "refusal, raster, rows, faults, verdict (0 refused, 1 NO SIGNAL, 2 FAIL, 3 SHORT, 4 PASS), SESSION"
-fn end(arguments: &mut Arguments) -> Answer {
+pub fn end(arguments: &mut Arguments) -> Answer {
     let (result, numbers) = called(arguments.session()?, Session::end);
     Ok(ended(result, numbers))
 }
@@ -66,7 +50,7 @@ fn ended(result: Result<Report, Refusal>, numbers: Numbers) -> Vec<u32> {
 }
 
 /// "a module: begin on a fresh session, feeds, end"; "refusal of begin, LIST refusals of the feeds, then as 72, RUNS Y, RUNS C"
-fn module(arguments: &mut Arguments) -> Answer {
+pub fn module(arguments: &mut Arguments) -> Answer {
     let (code, lengths) = (arguments.number()?, arguments.list()?);
     let words = arguments.signal(0)?;
     let [mut y, mut c] = [arguments.runs()?, arguments.runs()?];
@@ -78,13 +62,7 @@ fn module(arguments: &mut Arguments) -> Answer {
         feeds.push(number(fed) as u16);
     }
     let result = session.end();
-    let answer = [
-        vec![number(begun)],
-        list(&feeds),
-        ended(result, session.numbers()),
-        runs(&y),
-        runs(&c),
-    ];
+    let answer = [vec![number(begun)], list(&feeds), ended(result, session.numbers()), runs(&y), runs(&c)];
     Ok(answer.concat())
 }
 
@@ -97,9 +75,7 @@ fn parts<'a>(words: &'a [u16], lengths: &[u16]) -> Result<Vec<&'a [u16]>, String
     let mut parts = Vec::new();
     let mut left = words;
     for &length in lengths {
-        let (part, rest) = left
-            .split_at_checked(length.into())
-            .ok_or("feeds of more words than there are")?;
+        let (part, rest) = left.split_at_checked(length.into()).ok_or("feeds of more words than there are")?;
         parts.push(part);
         left = rest;
     }

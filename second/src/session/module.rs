@@ -1,11 +1,10 @@
 //! A module that was begun, bit by bit: alignment, rows and their judging.
 
-use super::happening::{counts_after, Happening};
 use super::{verdict, Buffers, Report};
 use crate::cable::{cable_bits, is_sync, next_history, unscrambled, SYNC_BITS};
 use crate::check::judge;
 use crate::crc::Carry;
-use crate::layout::{Layout, Row, EAV, LINE, Y};
+use crate::layout::{Layout, EAV, LINE, Y};
 use crate::raster::Raster;
 use crate::timing::{line_of, read_xyz, SYNC_WORDS};
 use crate::words::{word_of, WORD_BITS};
@@ -81,7 +80,7 @@ impl Module {
         }
         // "the four pairs after the T-th not an EAV": with an EAV the row would have been another by now.
         if self.row == Some(self.whole_row()) {
-            self.drop_row(Happening::DroppedLate);
+            self.drop_row();
         }
     }
 
@@ -118,7 +117,7 @@ impl Module {
             // "It is complete when the next EAV comes T pairs later, and is then judged."
             Some(bits) if bits == self.whole_row() => self.judge(buffers),
             // "an EAV at another distance"
-            Some(_) => self.drop_row(Happening::DroppedEarly),
+            Some(_) => self.drop_row(),
             None => {}
         }
         self.row = Some(EAV_BITS);
@@ -134,44 +133,41 @@ impl Module {
         self.ahead = PAIR_BITS;
         // "a sync at another alignment": another place modulo twenty bits.
         if self.row.is_some_and(|bits| bits % PAIR_BITS != 0) {
-            self.drop_row(Happening::DroppedAstray);
+            self.drop_row();
         }
     }
 
     /// "The last three [..] drop the row, carry and expected line."
-    pub fn drop_row(&mut self, happening: Happening) {
-        self.count(happening);
+    fn drop_row(&mut self) {
+        self.count_fault();
         self.row = None;
         self.carry = None;
         self.line = None;
     }
 
-    fn count(&mut self, happening: Happening) {
-        [self.rows, self.faults] = counts_after(Some(happening), [self.rows, self.faults]);
+    /// "Both counts stay at 4,294,967,295 once there."
+    fn count_fault(&mut self) {
+        self.faults = self.faults.saturating_add(1);
     }
 
+    /// Judges a complete row; line and carry are those of the next afterwards.
     fn judge(&mut self, buffers: &Buffers) {
         let total = self.total();
         let row = buffers.each_ref().map(|buffer| &buffer[..total]);
-        let happening = self.judged(row);
-        self.count(happening);
-    }
-
-    /// What comes of a complete row; line and carry are those of the next.
-    pub fn judged(&mut self, row: Row) -> Happening {
         let Some(line) = self.line_of_row(row[Y]) else {
             // "else one fault; that row is not judged, leaves no carry, and the next is tried"
             self.carry = None;
-            return Happening::Unnumbered;
+            return self.count_fault();
         };
         let layout = Layout::of(self.raster.code, line).expect("the line is of the raster");
         let (flags, next) = judge(&layout, self.carry, row);
         self.line = Some(self.line_after(line));
-        Happening::RowJudged {
-            line,
-            flags,
-            // Where the row gives the line there is no carry, so its CRC is not judged.
-            crc_judged: self.carry.replace(next).is_some(),
+        // "A row counts once its CRC could be judged": where the row gives the line there is no carry.
+        if self.carry.replace(next).is_some() {
+            self.rows = self.rows.saturating_add(1);
+        }
+        if flags != 0 {
+            self.count_fault();
         }
     }
 
@@ -197,14 +193,14 @@ impl Module {
 }
 
 /// Y and C of the pair that ends the window; it came "C word first, then Y".
-pub fn last_pair(window: &[bool]) -> [u16; 2] {
+fn last_pair(window: &[bool]) -> [u16; 2] {
     let (before, y) = window.split_at(window.len() - WORD_BITS);
     let c = &before[before.len() - WORD_BITS..];
     [word_of(y), word_of(c)]
 }
 
 /// Whether the XYZ pair that ends the window is that of an EAV, by its Y word: "H is 1 in EAV".
-pub fn is_eav(window: &[bool]) -> bool {
+fn is_eav(window: &[bool]) -> bool {
     let [y, _] = last_pair(window);
     matches!(read_xyz(y), Ok(Some((_, _, true))))
 }

@@ -1,10 +1,10 @@
 //! The fifteen numbers of a session, their ranges, and the session that they stand for.
 
 use super::module::{Module, PAIR_BITS};
-use super::sight::Sight;
 use super::Session;
 use crate::cable::SYNC_BITS;
 use crate::crc::{carry_numbers, is_carry, Carry};
+use crate::layout::EAV;
 use crate::raster::raster_of;
 use crate::refusal::{refuse, Refusal};
 use crate::words::is_word;
@@ -58,7 +58,7 @@ impl Numbers {
         };
         self.open == (self.raster != 0)
             && is_word(self.history)
-            && self.sight().in_range(raster.total)
+            && self.bits_in_range(raster.total)
             && self.line <= raster.rows
             && self.carry_in_range()
     }
@@ -71,14 +71,16 @@ impl Numbers {
         }
     }
 
-    pub fn sight(&self) -> Sight {
-        Sight {
-            last: self.last,
-            ahead: self.ahead,
-            seen: self.seen,
-            pairs: self.pairs,
-            bit: self.bit,
-        }
+    /// Whether the numbers that bits change are in range, in rows of T pairs: "while a row is open 0 or 20 - bit".
+    fn bits_in_range(&self, total: u32) -> bool {
+        let (ahead, bit) = (usize::from(self.ahead), usize::from(self.bit));
+        let in_row = if self.pairs == 0 {
+            bit == 0 && ahead <= PAIR_BITS
+        } else {
+            let eav = EAV.end as u32;
+            (eav..total + eav).contains(&self.pairs) && bit < PAIR_BITS && (ahead == 0 || ahead + bit == PAIR_BITS)
+        };
+        self.last[1] < 1 << (SYNC_BITS - 32) && in_row
     }
 
     /// The session, or refusal 7: "a session number outside the range docs/ gives for it".
@@ -129,7 +131,7 @@ impl Module {
     }
 }
 
-pub fn bits_of_last(last: [u32; 2]) -> Vec<bool> {
+fn bits_of_last(last: [u32; 2]) -> Vec<bool> {
     let bit = |place: usize| last[place / 32] >> (place % 32) & 1 == 1;
     (0..SYNC_BITS).map(bit).collect()
 }

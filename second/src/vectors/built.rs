@@ -7,9 +7,7 @@ use crate::functions::*;
 use crate::runs::runs;
 
 /// A packet of C: DID 61, SDID 02, user words 004 and 3FB; its checksum is worked by hand.
-pub const OTHER: [u16; 9] = [
-    0x000, 0x3ff, 0x3ff, 0x161, 0x102, 0x102, 0x004, 0x3fb, 0x164,
-];
+pub const OTHER: [u16; 9] = [0x000, 0x3ff, 0x3ff, 0x161, 0x102, 0x102, 0x004, 0x3fb, 0x164];
 pub const CARRY: [u32; 2] = [0x12345, 0x3ffff];
 pub const PACKETS: [&[u16]; 2] = [&NINTH, &OTHER];
 pub const BLANKING: [u16; 2] = [0x040, 0x200];
@@ -61,13 +59,7 @@ fn row((code, line, v, [eav, sav], line_words): Entry) -> Row {
         [&start, &sav[..], &picture, last].concat()
     });
     let sav = 8 + hanc;
-    Row {
-        code,
-        line,
-        v,
-        sav,
-        words,
-    }
+    Row { code, line, v, sav, words }
 }
 
 fn crc(register: u32, covered: &[u16]) -> [u16; 2] {
@@ -85,10 +77,7 @@ impl Row {
     }
 
     pub fn next_carry(&self) -> [u32; 3] {
-        let [y, c] = self
-            .words
-            .each_ref()
-            .map(|words| after_words(0, &words[self.sav + 4..]));
+        let [y, c] = self.words.each_ref().map(|words| after_words(0, &words[self.sav + 4..]));
         [1, y, c]
     }
 
@@ -103,14 +92,6 @@ impl Row {
         vector(&request, &[&[0, flags], &self.next_carry()[..]].concat())
     }
 
-    /// Judged, it has these flags.
-    pub fn judged(&self, carry: bool, flags: u32) -> Vector {
-        let mut judged = self.checked(carry, flags);
-        judged.request[0] = JUDGE_ROW;
-        judged.answer.remove(0);
-        judged
-    }
-
     /// Corrected, it is this row.
     pub fn corrected(&self, carry: bool, wipe: u32, row: &Row) -> Vector {
         let start = [CORRECT_ROW, self.code, self.line];
@@ -121,33 +102,12 @@ impl Row {
     /// It is what is built of its active words, and of its blanking up to the packet's end.
     fn built(&self, carry: bool) -> Vector {
         let start = [BUILD_ROW, self.code, self.line];
-        let active = self
-            .words
-            .iter()
-            .flat_map(|words| runs(&words[self.sav + 4..]));
+        let active = self.words.iter().flat_map(|words| runs(&words[self.sav + 4..]));
         let blanking = PACKETS.into_iter().flat_map(runs);
-        let buffers = self
-            .words
-            .iter()
-            .flat_map(|words| runs(&vec![0xffff; words.len()]));
+        let buffers = self.words.iter().flat_map(|words| runs(&vec![0xffff; words.len()]));
         let parts = active.chain(blanking).chain(buffers).collect();
         let request = [start.to_vec(), carry_numbers(carry).to_vec(), parts].concat();
         vector(&request, &made(self))
-    }
-
-    /// What raster and line say of it.
-    fn laid_out(&self) -> Vector {
-        let y = &self.words[0];
-        let (total, active) = (y.len(), y.len() - self.sav - 4);
-        let places = [0, total, active, 8, self.sav - 8, self.sav, self.sav + 4];
-        let words = [y[3], y[self.sav + 3], y[4], y[5]].map(u32::from);
-        let answer = [
-            &places.map(|place| place as u32),
-            &[self.v.into()][..],
-            &words,
-        ]
-        .concat();
-        vector(&[ROW_LAYOUT, self.code, self.line], &answer)
     }
 }
 
@@ -173,10 +133,8 @@ pub fn all() -> Vec<Vector> {
                 words[6..8].fill(0x200);
             }
             [
-                row.laid_out(),
                 row.built(true),
                 row.checked(true, 0),
-                row.judged(true, 0),
                 row.corrected(true, 0, &row),
                 without.built(false),
                 without.checked(false, 0),
@@ -199,14 +157,5 @@ mod tests {
         assert_eq!(row.words[0][6..8], [0x12d, 0x10e]);
         assert_eq!(row.words[1][6..8], [0x26d, 0x16a]);
         assert_eq!(row.next_carry(), [1, 0x16c61, 0xda0e]);
-    }
-
-    #[test]
-    fn each_row_has_t_words() {
-        for row in rows() {
-            let code = if row.code == 0 { 7 } else { row.code };
-            let total = ROWS[code as usize - 1][1] as usize;
-            assert_eq!(row.words.map(|words| words.len()), [total; 2]);
-        }
     }
 }

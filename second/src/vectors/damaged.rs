@@ -54,11 +54,13 @@ fn laid(row: &Row, channel: usize, place: usize, words: &[u16]) -> Row {
 
 /// Damage that shows the flag, with a carry and without, and that correction mends, with a carry and without.
 fn mended(row: &Row, channel: usize, place: usize, flag: u32) -> Vec<Vector> {
-    let damaged = changed(row, channel, place);
+    mended_again(&changed(row, channel, place), row, flag)
+}
+
+fn mended_again(damaged: &Row, row: &Row, flag: u32) -> Vec<Vector> {
     vec![
         damaged.checked(true, flag),
         damaged.checked(false, flag),
-        damaged.judged(true, flag),
         damaged.corrected(true, 0, row),
         damaged.corrected(false, 0, row),
     ]
@@ -72,7 +74,6 @@ fn covered(row: &Row, channel: usize, place: usize, flag: u32) -> Vec<Vector> {
         damaged.checked(true, flag | CRC[channel]),
         damaged.checked(false, flag),
         with_crc.checked(true, flag),
-        with_crc.judged(true, flag),
         damaged.corrected(true, 0, row),
         damaged.corrected(false, 0, row),
         with_crc.corrected(true, 0, row),
@@ -94,6 +95,12 @@ fn crc_word(row: &Row, channel: usize, place: usize) -> Vec<Vector> {
 fn checksums(row: &Row, channel: usize) -> Vec<Vector> {
     let in_blanking = 8 + PACKETS[channel].len() - 1;
     let mut vectors = mended(row, channel, in_blanking, CHECKSUM[channel]);
+    // Bit 9 alone is wrong, or all bits are 0.
+    let right = row.words[channel][in_blanking];
+    for wrong in [right ^ 0x200, 0x000] {
+        let damaged = laid(row, channel, in_blanking, &[wrong]);
+        vectors.extend(mended_again(&damaged, row, CHECKSUM[channel]));
+    }
     if row.v {
         let in_active = row.words[channel].len() - 1;
         vectors.extend(mended(row, channel, in_active, CHECKSUM[channel]));
@@ -103,10 +110,7 @@ fn checksums(row: &Row, channel: usize) -> Vec<Vector> {
 
 /// Damage that correction leaves as it is.
 fn left(damaged: &Row, flag: u32) -> [Vector; 2] {
-    [
-        damaged.checked(true, flag),
-        damaged.corrected(true, 0, damaged),
-    ]
+    [damaged.checked(true, flag), damaged.corrected(true, 0, damaged)]
 }
 
 /// At the end of the blanking: a marker alone, a packet that lacks its last word, one that lacks nothing, and a marker
@@ -123,11 +127,7 @@ fn cut(row: &Row, channel: usize) -> Vec<Vector> {
 
 /// The reserved codes' limits, as the first active word of Y and, where V is 0, the last of C.
 fn reserved(row: &Row, channel: usize) -> Vec<Vector> {
-    let place = if row.v || channel == 0 {
-        row.sav + 4
-    } else {
-        row.words[channel].len() - 1
-    };
+    let place = if row.v || channel == 0 { row.sav + 4 } else { row.words[channel].len() - 1 };
     let flag = if row.v { 0 } else { RESERVED };
     [(0x003, flag), (0x004, 0), (0x3fb, 0), (0x3fc, flag)]
         .into_iter()

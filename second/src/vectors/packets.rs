@@ -1,79 +1,46 @@
 //! Packets: the ninth number, the limits of user words, and the data sheets' header words.
 
-use super::{vector, Vector, AUDIO_DIDS};
-use crate::functions::*;
+use super::{vector, Vector};
+use crate::functions::BUILD_PACKET;
 use crate::runs::runs;
 
 /// "(9) packet 000 3FF 3FF 241 101 104 185 206 101 200 has checksum 2D2"
-pub const NINTH: [u16; 11] = [
-    0x000, 0x3ff, 0x3ff, 0x241, 0x101, 0x104, 0x185, 0x206, 0x101, 0x200, 0x2d2,
+pub const NINTH: [u16; 11] = [0x000, 0x3ff, 0x3ff, 0x241, 0x101, 0x104, 0x185, 0x206, 0x101, 0x200, 0x2d2];
+
+/// The audio DIDs as the data sheets print them (000:1911-1919, 002:100, 003:2137-2141).
+const AUDIO_DIDS: [u16; 28] = [
+    0x2ff, 0x1fd, 0x1fb, 0x2f9, 0x1fe, 0x2fc, 0x2fa, 0x1f8, 0x1ef, 0x2ee, 0x2ed, 0x1ec, 0x2e7, 0x1e6, 0x1e5, 0x2e4,
+    0x1e3, 0x2e2, 0x2e1, 0x1e0, 0x1a7, 0x2a6, 0x2a5, 0x1a4, 0x2a3, 0x1a2, 0x1a1, 0x2a0,
 ];
 
 pub fn all() -> Vec<Vector> {
-    let groups = [
-        ninth_built(),
-        ninth_scanned(),
-        user_words(),
-        user_counts(),
-        identities(),
-        header_words(),
-    ];
+    let groups = [ninth_built(), user_words(), user_counts(), identities(), header_words()];
     groups.into_iter().flatten().collect()
 }
 
-fn asked(start: &[u32], lists: &[&[u16]], end: &[u32], answer: &[&[u32]]) -> Vector {
-    let lists = lists.iter().flat_map(|words| runs(words)).collect();
-    vector(
-        &[start.to_vec(), lists, end.to_vec()].concat(),
-        &answer.concat(),
-    )
+/// Asked of an output that holds words, which has others afterwards.
+fn asked(did: u32, sdid: u32, user: &[u16], held: &[u16], answer: [u32; 2], after: &[u16]) -> Vector {
+    let request = [&[BUILD_PACKET, did, sdid], &runs(user)[..], &runs(held)].concat();
+    vector(&request, &[&answer, &runs(after)[..]].concat())
 }
 
 /// A packet built into an output of as many words, each FFFF before.
 fn built(did: u32, sdid: u32, user: &[u16], packet: &[u16]) -> Vector {
-    let output = vec![0xffff; packet.len()];
-    let answer: &[&[u32]] = &[&[0, packet.len() as u32], &runs(packet)];
-    asked(&[BUILD_PACKET, did, sdid], &[user, &output], &[], answer)
+    let held = vec![0xffff; packet.len()];
+    asked(did, sdid, user, &held, [0, packet.len() as u32], packet)
 }
 
-fn not_built(refusal: u32, did: u32, user: &[u16], output: &[u16]) -> Vector {
-    let answer: &[&[u32]] = &[&[refusal, 0], &runs(output)];
-    asked(&[BUILD_PACKET, did, 0x01], &[user, output], &[], answer)
+fn not_built(refusal: u32, did: u32, user: &[u16], held: &[u16]) -> Vector {
+    asked(did, 0x01, user, held, [refusal, 0], held)
 }
 
 fn ninth_built() -> Vec<Vector> {
     let user = &NINTH[6..10];
     let longer = [&NINTH[..], &[0x155]].concat();
     vec![
-        asked(&[CHECKSUM], &[&NINTH[3..10]], &[], &[&[0x2d2]]),
         built(0x41, 0x01, user, &NINTH),
-        asked(
-            &[BUILD_PACKET, 0x41, 0x01],
-            &[user, &[0x155; 12]],
-            &[],
-            &[&[0, 11], &runs(&longer)],
-        ),
+        asked(0x41, 0x01, user, &[0x155; 12], [0, 11], &longer),
         not_built(1, 0x41, user, &[0x155; 10]),
-    ]
-}
-
-/// As it is, without its checksum, and with the checksum's bit 9 alone or all of it wrong.
-fn ninth_scanned() -> Vec<Vector> {
-    let cut = &NINTH[..10];
-    let bit_nine = [cut, &[0x0d2]].concat();
-    let zero = [cut, &[0x000]].concat();
-    vec![
-        asked(&[SCAN], &[&NINTH], &[], &[&[11, 0, 0, 0]]),
-        asked(&[SCAN], &[cut], &[], &[&[0, 1, 0, 0]]),
-        asked(&[SCAN], &[&bit_nine], &[], &[&[11, 0, 1, 0]]),
-        asked(&[SCAN], &[&zero], &[], &[&[11, 0, 1, 0]]),
-        asked(&[PACKET_AT], &[&NINTH], &[0], &[&[2, 11]]),
-        asked(&[PACKET_AT], &[&NINTH], &[1], &[&[0, 0]]),
-        asked(&[PACKET_AT], &[cut], &[0], &[&[1, 0]]),
-        asked(&[RIGHT_CHECKSUMS], &[&bit_nine], &[0, 11], &[&runs(&NINTH)]),
-        asked(&[RIGHT_CHECKSUMS], &[&zero], &[0, 10], &[&runs(&zero)]),
-        asked(&[WIPE], &[&zero], &[0, 11, 0x040], &[&runs(&[0x040; 11])]),
-        asked(&[WIPE], &[&zero], &[0, 10, 0x040], &[&runs(&zero)]),
     ]
 }
 

@@ -19,11 +19,7 @@ pub fn all() -> Vec<Vector> {
 
 /// What begin answers.
 pub fn of(raster: u32) -> Numbers {
-    Numbers {
-        open: true,
-        raster,
-        ..Numbers::default()
-    }
+    Numbers { open: true, raster, ..Numbers::default() }
 }
 
 fn begin(numbers: Numbers, raster: u32, refusal: u32, answer: Numbers) -> Vector {
@@ -34,16 +30,8 @@ fn begin(numbers: Numbers, raster: u32, refusal: u32, answer: Numbers) -> Vector
 /// "Code 0 stands for 7"; "begin when open" is 7, and comes before 4.
 fn begun() -> Vec<Vector> {
     let closed = Numbers::default();
-    let left = Numbers {
-        line: 1125,
-        carry: Some([0x3ffff; 2]),
-        rows: CEILING,
-        faults: CEILING,
-        ..closed
-    };
-    let mut vectors: Vec<Vector> = (1..=11)
-        .map(|raster| begin(closed, raster, 0, of(raster)))
-        .collect();
+    let left = Numbers { line: 1125, carry: Some([0x3ffff; 2]), rows: CEILING, faults: CEILING, ..closed };
+    let mut vectors: Vec<Vector> = (1..=11).map(|raster| begin(closed, raster, 0, of(raster))).collect();
     vectors.extend([
         begin(closed, 0, 0, of(7)),
         begin(left, 0, 0, of(7)),
@@ -77,13 +65,7 @@ fn ended() -> Vec<Vector> {
 
 fn end(raster: u32, seen: bool, rows: u32, faults: u32, verdict: u32) -> Vector {
     // Three pairs of blanking have come, and before them a sync that is no EAV's, or none.
-    let numbers = Numbers {
-        last: [0x2001_0200, 0x0102_0010],
-        seen,
-        rows,
-        faults,
-        ..of(raster)
-    };
+    let numbers = Numbers { last: [0x2001_0200, 0x0102_0010], seen, rows, faults, ..of(raster) };
     let request = [&[END], &numbers.list()[..]].concat();
     let answer = [&[0, raster, rows, faults, verdict], &FRESH[..]].concat();
     vector(&request, &answer)
@@ -92,62 +74,28 @@ fn end(raster: u32, seen: bool, rows: u32, faults: u32, verdict: u32) -> Vector 
 /// "a session number outside the range docs/ gives for it": each number by one.
 fn out_of_range() -> Vec<Vector> {
     let open = of(1);
-    let row = Numbers {
-        seen: true,
-        pairs: 9,
-        bit: 7,
-        ..open
-    };
+    let row = Numbers { seen: true, pairs: 9, bit: 7, ..open };
     let closed = Numbers::default();
     [
         Numbers { raster: 0, ..open },
         Numbers { raster: 12, ..open },
-        Numbers {
-            raster: 1,
-            ..closed
-        },
-        Numbers {
-            history: 0x400,
-            ..open
-        },
-        Numbers {
-            last: [0, 1 << 28],
-            ..open
-        },
+        Numbers { raster: 1, ..closed },
+        Numbers { history: 0x400, ..open },
+        Numbers { last: [0, 1 << 28], ..open },
         Numbers { ahead: 21, ..open },
         Numbers { ahead: 12, ..row },
         Numbers { ahead: 14, ..row },
         Numbers { pairs: 3, ..row },
-        Numbers {
-            pairs: 1650 + 4,
-            ..row
-        },
+        Numbers { pairs: 1650 + 4, ..row },
         Numbers { bit: 20, ..row },
         Numbers { bit: 1, ..open },
         Numbers { line: 751, ..open },
-        Numbers {
-            line: 1126,
-            ..closed
-        },
-        Numbers {
-            line: 1,
-            carry: Some([0x40000, 0]),
-            ..open
-        },
-        Numbers {
-            line: 1,
-            carry: Some([0, 0x40000]),
-            ..open
-        },
+        Numbers { line: 1126, ..closed },
+        Numbers { line: 1, carry: Some([0x40000, 0]), ..open },
+        Numbers { line: 1, carry: Some([0, 0x40000]), ..open },
         // "none where line is 0"
-        Numbers {
-            carry: Some([0, 0]),
-            ..open
-        },
-        Numbers {
-            carry: Some([0, 0]),
-            ..closed
-        },
+        Numbers { carry: Some([0, 0]), ..open },
+        Numbers { carry: Some([0, 0]), ..closed },
     ]
     .into_iter()
     .flat_map(|numbers| {

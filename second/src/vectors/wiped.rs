@@ -29,10 +29,7 @@ fn sought(row: &Row) -> Vec<Vector> {
     [(0x41, 0x01, y), (0x61, 0x02, c), (0x41, 0x02, &[])]
         .into_iter()
         .map(|(did, sdid, part)| {
-            let request = [
-                &[FIND_PACKET, row.code, row.line, did, sdid],
-                &row.runs()[..],
-            ];
+            let request = [&[FIND_PACKET, row.code, row.line, did, sdid], &row.runs()[..]];
             vector(&request.concat(), &[&[0], &runs(part)[..]].concat())
         })
         .collect()
@@ -80,11 +77,7 @@ fn made_whole(row: &Row) -> Vec<Vector> {
             let mut whole = wiped(row);
             lay(&mut whole.words[channel], row.sav - 100, &NINTH[..3]);
             whole.words[channel][row.sav - 100 + last] = checksum;
-            [
-                marked.checked(true, 1 << 7),
-                marked.corrected(true, 1, &whole),
-                whole.checked(true, 0),
-            ]
+            [marked.checked(true, 1 << 7), marked.corrected(true, 1, &whole), whole.checked(true, 0)]
         })
         .collect()
 }

@@ -7,14 +7,7 @@ use crate::random::Random;
 use std::ops::Range;
 
 /// Also counts that are right in their lowest byte, or with their bytes the other way round.
-const HUGE: [u32; 6] = [
-    0xffff_ffff,
-    0xffff_ffff,
-    0x8000_0000,
-    0x0200_0000,
-    0x0001_0002,
-    0x0000_0102,
-];
+const HUGE: [u32; 6] = [0xffff_ffff, 0xffff_ffff, 0x8000_0000, 0x0200_0000, 0x0001_0002, 0x0000_0102];
 const NO_TAG_BYTES: [u8; 9] = [0x20, 0x20, 0x7f, 0x7f, 0x00, 0xff, 0x0a, 0x80, 0xa1];
 const NO_RASTERS: [u8; 8] = [12, 12, 13, 16, 0x71, 0x80, 0x87, 0xff];
 const NO_WIPES: [u8; 6] = [2, 2, 3, 0x10, 0x80, 0xff];
@@ -39,11 +32,7 @@ impl BadJob {
     pub fn of(mut job: Job) -> Self {
         let words = job.words.len().max(2);
         job.words.resize(words, 0x155);
-        Self {
-            counts: job.counts(),
-            job,
-            end: None,
-        }
+        Self { counts: job.counts(), job, end: None }
     }
 
     pub fn bytes(&self) -> Vec<u8> {
@@ -58,11 +47,7 @@ impl BadJob {
 
     /// The places of a section's bytes, its count among them.
     pub fn section(&self, section: usize) -> Range<usize> {
-        let Job {
-            tag,
-            options,
-            words,
-        } = &self.job;
+        let Job { tag, options, words } = &self.job;
         let lengths = [tag.len(), options.len(), 2 * words.len()].map(|length| COUNT + length);
         let start = lengths[..section].iter().sum();
         start..start + lengths[section]
@@ -138,11 +123,7 @@ impl BadJob {
 
     pub fn spoil_word_at(&mut self, random: &mut Random, place: usize) -> usize {
         let word = &mut self.job.words[place];
-        let above = [
-            lists::above(random),
-            random.pick(&NO_WORDS),
-            *word | 0x400 << random.below(6),
-        ];
+        let above = [lists::above(random), random.pick(&NO_WORDS), *word | 0x400 << random.below(6)];
         *word = random.pick(&above);
         self.section(WORDS).start + COUNT + 2 * place
     }

@@ -12,24 +12,12 @@ pub fn all() -> Vec<Fault<BadJob>> {
 
 /// Those that do not make a job longer.
 pub fn of_few_words() -> Vec<Fault<BadJob>> {
-    let faults = [
-        &SINGLE[..],
-        &CUTS,
-        &TWO_IN_TAG,
-        &TWO_IN_OPTIONS,
-        &TWO_IN_WORDS,
-        &IN_TWO_SECTIONS,
-    ];
+    let faults = [&SINGLE[..], &CUTS, &TWO_IN_TAG, &TWO_IN_OPTIONS, &TWO_IN_WORDS, &IN_TWO_SECTIONS];
     faults.concat()
 }
 
 /// The job once it is spoilt in one of these ways.
-pub fn bad_job(
-    random: &mut Random,
-    job: Job,
-    faults: &[Fault<BadJob>],
-    notes: &mut Notes,
-) -> BadJob {
+pub fn bad_job(random: &mut Random, job: Job, faults: &[Fault<BadJob>], notes: &mut Notes) -> BadJob {
     let mut bad = BadJob::of(job);
     let spoil = notes.in_turn(faults);
     spoil(random, &mut bad);
@@ -41,9 +29,7 @@ const SINGLE: [Fault<BadJob>; 9] = [
     ("bad tag byte", |random, bad| {
         bad.spoil_tag(random);
     }),
-    ("bad options count", |random, bad| {
-        bad.spoil_option_count(random)
-    }),
+    ("bad options count", |random, bad| bad.spoil_option_count(random)),
     ("bad raster", |random, bad| bad.spoil_raster(random)),
     ("bad wipe", |random, bad| bad.spoil_wipe(random)),
     ("bad word", |random, bad| {
@@ -52,9 +38,7 @@ const SINGLE: [Fault<BadJob>; 9] = [
     ("words count a little too high", |random, bad| {
         bad.more_words(random.between(1, 3));
     }),
-    ("words count far too high", |random, bad| {
-        bad.many_words(random)
-    }),
+    ("words count far too high", |random, bad| bad.many_words(random)),
     ("words count too low", |random, bad| bad.fewer_words(random)),
 ];
 
@@ -66,9 +50,7 @@ const CUTS: [Fault<BadJob>; 6] = [
     ("cut in the options' count", |random, bad| {
         cut_in_count(random, bad, OPTIONS);
     }),
-    ("cut in the options", |random, bad| {
-        cut(random, bad, OPTIONS)
-    }),
+    ("cut in the options", |random, bad| cut(random, bad, OPTIONS)),
     ("cut in the words' count", |random, bad| {
         cut_in_count(random, bad, WORDS);
     }),

@@ -50,13 +50,10 @@ pub const FAULTS: [Fault<Signal>; 18] = [
         let place = code_amid(random, signal, off);
         stop_about(random, signal, place + SYNC_BITS);
     }),
-    (
-        "end with a sync about the T-th pair's end",
-        |random, signal| {
-            let place = code_about_the_end(random, signal);
-            stop_about(random, signal, place + SYNC_BITS);
-        },
-    ),
+    ("end with a sync about the T-th pair's end", |random, signal| {
+        let place = code_about_the_end(random, signal);
+        stop_about(random, signal, place + SYNC_BITS);
+    }),
     ("end with an EAV", |random, signal| {
         let end = signal.start(random) + EAV_BITS;
         stop_about(random, signal, end);

@@ -12,12 +12,8 @@ pub const FAULTS: [Fault<Row>; 8] = [
     ("flipped bit of a word", flip),
     ("flipped bit of an active word", flip_active),
     ("reserved code in the active words", reserve),
-    ("wrong checksum in Y", |random, row| {
-        wrong_checksum(random, row, Y)
-    }),
-    ("wrong checksum in C", |random, row| {
-        wrong_checksum(random, row, C)
-    }),
+    ("wrong checksum in Y", |random, row| wrong_checksum(random, row, Y)),
+    ("wrong checksum in C", |random, row| wrong_checksum(random, row, C)),
     ("packet whose DC does not fit", |random, row| {
         end_in_a_packet(random, row, MARKER.len()..USER);
     }),

@@ -15,12 +15,8 @@ pub const FAULTS: [OrderFault; 9] = [
             rows.remove(at);
         }
     }),
-    ("doubled row", |_, rows, at| {
-        rows.insert(at, rows[at].clone())
-    }),
-    ("jump of lines", |random, rows, at| {
-        jump(random, &mut rows[at..])
-    }),
+    ("doubled row", |_, rows, at| rows.insert(at, rows[at].clone())),
+    ("jump of lines", |random, rows, at| jump(random, &mut rows[at..])),
     ("wrong line number", |random, rows, at| {
         other_number(random, &mut rows[at], &[Y, C]);
     }),
@@ -33,14 +29,11 @@ pub const FAULTS: [OrderFault; 9] = [
     ("line number of no line", |random, rows, at| {
         number_of_no_line(random, &mut rows[at]);
     }),
-    (
-        "line numbers of no line from the first row on",
-        |random, rows, at| {
-            for row in &mut rows[..=at] {
-                number_of_no_line(random, row);
-            }
-        },
-    ),
+    ("line numbers of no line from the first row on", |random, rows, at| {
+        for row in &mut rows[..=at] {
+            number_of_no_line(random, row);
+        }
+    }),
     ("line number not exact", |random, rows, at| {
         break_number(random, &mut rows[at]);
     }),

@@ -1,10 +1,7 @@
-//! Smaller numbers for one argument of a request. Places and ranges are of its numbers.
+//! Smaller numbers for one part of what is put. Places and ranges are of its numbers.
 
-use super::file_parts::FileParts;
-use super::halvings::halvings;
-use super::request_parts::{Kind, Piece};
+use super::parts::{Kind, Parts, Piece};
 use crate::arguments::Arguments;
-use crate::job::Job;
 use crate::requests::format_line;
 use std::ops::Range;
 
@@ -13,6 +10,11 @@ pub type Numbers = Vec<u32>;
 /// The places of a session's line and of its carry.
 const LINE: usize = 9;
 const CARRY: Range<usize> = 10..13;
+
+/// The number, its half, its quarter .. and 1: sizes of parts, coarse before fine.
+pub fn halvings(number: usize) -> impl Iterator<Item = usize> {
+    (0..usize::BITS).map(move |times| number >> times).take_while(|&part| part > 0)
+}
 
 pub fn without(piece: &Piece, range: Range<usize>) -> Numbers {
     let mut numbers = piece.numbers.clone();
@@ -48,60 +50,55 @@ pub fn cleared(piece: &Piece, range: Range<usize>) -> Numbers {
     numbers
 }
 
-/// No carry; a session that is closed, or just begun, or has no carry; a file of less or smaller jobs.
+/// No carry; a session that is closed, or just begun, or has no carry; the tag `A`; the shortest raster; a smaller file.
 pub fn simpler(piece: &Piece) -> Vec<Numbers> {
-    let none = vec![0; piece.numbers.len()];
     match piece.kind {
-        Kind::Carry => vec![none],
+        Kind::Carry => vec![vec![0; piece.numbers.len()]],
+        Kind::Session => simpler_sessions(piece),
+        Kind::Tag => vec![vec![b'A'.into()]],
+        Kind::Options => vec![vec![1, 0]],
         Kind::Bytes => simpler_files(&piece.numbers),
-        Kind::Session => {
-            let mut begun = none.clone();
-            begun[..2].copy_from_slice(&piece.numbers[..2]);
-            let mut without_carry = piece.numbers.clone();
-            without_carry[CARRY].fill(0);
-            let sessions = [none, begun, without_carry].into_iter();
-            sessions.filter(|after| may_be_sent(piece, after)).collect()
-        }
         _ => Vec::new(),
     }
+}
+
+/// Whether a tag or options are as plain as can be: with fewer bytes, or zeros, the file would only be bad.
+pub fn is_plain(piece: &Piece) -> bool {
+    matches!(piece.kind, Kind::Tag | Kind::Options) && simpler(piece).contains(&piece.numbers)
+}
+
+fn simpler_sessions(piece: &Piece) -> Vec<Numbers> {
+    let none = vec![0; piece.numbers.len()];
+    let mut begun = none.clone();
+    begun[..2].copy_from_slice(&piece.numbers[..2]);
+    let mut without_carry = piece.numbers.clone();
+    without_carry[CARRY].fill(0);
+    let sessions = [none, begun, without_carry].into_iter();
+    sessions.filter(|after| may_be_sent(piece, after)).collect()
 }
 
 /// The file without one of its jobs, or with fewer words, a short tag or plain options in one; their counts stay right.
 fn simpler_files(numbers: &[u32]) -> Vec<Numbers> {
     let bytes: Vec<u8> = numbers.iter().map(|&number| number as u8).collect();
-    let file = FileParts::of(&bytes);
-    let mut files = Vec::new();
-    for place in 0..file.jobs.len() {
-        let mut without = file.clone();
-        without.jobs.remove(place);
-        files.push(without);
-        for job in simpler_jobs(&file.jobs[place]) {
-            let mut changed = file.clone();
-            changed.jobs[place] = job;
-            files.push(changed);
-        }
+    let file = Parts::of_file(&bytes);
+    let jobs = 0..file.jobs();
+    let mut files: Vec<Parts> = jobs.map(|job| file.without_jobs(job..job + 1)).collect();
+    for (place, piece) in file.pieces.iter().enumerate() {
+        let smaller = match piece.kind {
+            Kind::Words => without_ends(piece),
+            _ => simpler(piece),
+        };
+        files.extend(smaller.into_iter().map(|numbers| file.with(place, numbers)));
     }
-    let numbers = |file: FileParts| file.bytes().into_iter().map(u32::from).collect();
+    let numbers = |file: Parts| file.put().into_iter().map(u32::from).collect();
     files.into_iter().map(numbers).collect()
 }
 
-/// Words less at the front or at the back: all, halves, quarters .. single ones; the tag `A`; the shortest raster.
-fn simpler_jobs(job: &Job) -> Vec<Job> {
-    let count = job.words.len();
-    let parts = halvings(count).flat_map(|size| [size..count, 0..count - size]);
-    let fewer = parts.map(|part| Job {
-        words: job.words[part].to_vec(),
-        ..job.clone()
-    });
-    let plain_tag = Job {
-        tag: b"A".to_vec(),
-        ..job.clone()
-    };
-    let plain_options = Job {
-        options: vec![1, 0],
-        ..job.clone()
-    };
-    fewer.chain([plain_tag, plain_options]).collect()
+/// Less at the front or at the back: all, halves, quarters .. single ones.
+fn without_ends(piece: &Piece) -> Vec<Numbers> {
+    let count = piece.numbers.len();
+    let ends = halvings(count).flat_map(|size| [0..size, count - size..count]);
+    ends.map(|end| without(piece, end)).collect()
 }
 
 /// One number becomes 0, or is less by a half, a quarter .. and one.
@@ -119,7 +116,7 @@ pub fn lessened(piece: &Piece, place: usize) -> Vec<Numbers> {
     changed.filter(|after| may_be_sent(piece, after)).collect()
 }
 
-/// The chunk at the end of an argument may be shorter.
+/// The chunk at the end of a part may be shorter.
 fn within(piece: &Piece, range: Range<usize>) -> Range<usize> {
     range.start..range.end.min(piece.numbers.len())
 }
@@ -158,13 +155,6 @@ mod tests {
         assert_eq!(melted(&twos, 0..6), [[11, 1, 2], [11, 3, 4]]);
         assert!(melted(&piece(Kind::List, &[1, 2]), 0..2).is_empty());
         assert_eq!(cleared(&piece(Kind::List, &[1, 2]), 0..1), [0, 2]);
-    }
-
-    #[test]
-    fn a_number_is_less_by_a_half_a_quarter_and_one() {
-        let numbers = lessened(&piece(Kind::Number, &[10]), 0);
-        assert_eq!(numbers, [[0], [5], [8], [9]]);
-        assert_eq!(lessened(&piece(Kind::Number, &[1]), 0), [[0]]);
     }
 
     /// Open, of raster 1, with a history; then one that is out of range by its line.

@@ -73,10 +73,9 @@ impl Reading {
         ended.is_some() || matches!(piece, Piece::Refused(_))
     }
 
-    /// Something ends after so many words, if that is about one of the lengths, or they are few; with a word's low byte, half of
-    /// one.
+    /// Something ends after so many words, if that is about one of the lengths, or they are few; a cut also after half a word.
     fn note(&self, what: &str, seen: &mut Seen) {
-        let half = if self.reader.stage == Stage::High { " and a half" } else { "" };
+        let half = if what == "cut" && self.reader.stage == Stage::High { " and a half" } else { "" };
         let about = |length: &&usize| self.read.abs_diff(**length) <= 2;
         if self.read <= 3 || LENGTHS.iter().any(|length| about(&length)) {
             seen.ends.note(format!("{what} {}{half}", self.read));

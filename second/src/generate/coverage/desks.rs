@@ -65,7 +65,7 @@ fn every_stage_is_lent_bytes_with_every_outcome() {
         tally.assert_come((0..4).map(|come| format!("{stage}, {come} bytes of a count")), 2);
     }
     tally.assert_come(in_words.map(|stage| format!("{stage}, refusal 7")), 10);
-    tally.assert_come([3, 4, 9].map(|number| format!("refused with {number}")), 10);
+    tally.assert_come([3, 4, 9].map(|number| format!("refused with {number}")), 5);
 }
 
 #[test]

@@ -152,9 +152,10 @@ fn at_desks_syncs_end_at_every_place_and_sections_about_a_run() {
     assert_at_every_place(&places, &SYNCS, 2);
     assert_at_every_place(&places, &["opens"], 1);
     ends.assert_come(about_runs("section", &[FEW, RUN]), 1);
-    ends.assert_come(about_runs("lent", &[RUN]), 1);
+    ends.assert_come(about_runs("lent", &[FEW, RUN]), 1);
     ends.assert_come(&about_runs("bad", &[RUN])[..4], 1);
-    for what in ["section", "lent", "bad", "cut"] {
+    ends.assert_come(["cut 0", "cut 0 and a half", "cut 1", "cut 1 and a half"], 1);
+    for what in ["section", "lent", "bad"] {
         ends.assert_come((0..=2).map(|number| format!("{what} {number}")), 1);
     }
 }

@@ -1,6 +1,5 @@
-# contracts.awk EDITS TWICE FUNCTIONS FACE, with part=face or inner: the tables of tools/contracts.
+# contracts.awk input=1 EDITS input=2 TWICE input=3 FUNCTIONS input=4 FACE, with part=face or inner: the tables of tools/contracts.
 function error(text) { print "error: " text >"/dev/stderr"; bad = 1 }
-FNR == 1 { input++ }
 input == 1 { edit = $3; sub(/.*\//, "", edit); ruled[$1] = ruled[$1] (ruled[$1] == "" ? "" : "; ") $2 ": `" edit "`"; edits[$1]++; next }
 input == 2 { if (!($2 in twice)) twice[$2] = $1; next }
 input == 3 { functions[++count] = $2; layer[count] = $1; defined[$2] = $3; crate = $2; sub(/::.*/, "", crate); code[crate] = 1; if ($4 != "") error($2 ": " $4); next }

@@ -11,7 +11,10 @@ pub fn readable(code: u32, line: u32, row: Row) -> Result<Layout, Refusal> {
     let layout = Layout::of(code, line)?;
     let total = layout.total();
     refuse(&[
-        (Refusal::Length, row.iter().any(|words| words.len() != total)),
+        (
+            Refusal::Length,
+            row.iter().any(|words| words.len() != total),
+        ),
         (Refusal::Word, !row.iter().all(|words| all_words(words))),
     ])?;
     Ok(layout)
@@ -31,7 +34,12 @@ pub fn checkable(code: u32, line: u32, carry: Option<Carry>, row: Row) -> Result
 }
 
 /// The flags of a row and the next carry, or a refusal.
-pub fn check(code: u32, line: u32, carry: Option<Carry>, row: Row) -> Result<(u32, Carry), Refusal> {
+pub fn check(
+    code: u32,
+    line: u32,
+    carry: Option<Carry>,
+    row: Row,
+) -> Result<(u32, Carry), Refusal> {
     let layout = checkable(code, line, carry, row)?;
     Ok(judge(&layout, carry, row))
 }

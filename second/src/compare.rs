@@ -1,16 +1,16 @@
 //! Compares what a command answers or prints with this program's own, and finds the smallest input that they differ on.
 
-mod answers;
 mod budget;
 mod changes;
 mod command;
 mod files;
+mod judge;
 mod parts;
 mod requests;
 mod shrinking;
 
-use crate::generate::{captures, cuts, files::file, fixed, frames::frames, Generator};
-use crate::{decimal, vectors, Failure, USAGE};
+use crate::generate::{self, captures, cuts, files::file, fixed, frames::frames};
+use crate::{decimal, usage, vectors, Failure};
 use command::Command;
 use std::io::Write;
 
@@ -21,14 +21,12 @@ type Files = Box<dyn Iterator<Item = (String, Vec<u8>)>>;
 pub fn compare(words: &[&str], output: &mut impl Write) -> Result<(), Failure> {
     let alike = match words {
         ["requests", seed, count, command @ ..] => {
-            let mut generator = Generator::new(decimal(seed)?);
-            let requests = (0..decimal(count)?).map(|_| generator.request());
+            let requests = generate::requests(decimal(seed)?, decimal(count)?);
             let made_by = format!("requests {seed} {count}");
             requests::compare(&made_by, requests, &command_of(command)?)?
         }
         ["vectors", command @ ..] => {
-            let requests = vectors::all().into_iter().map(|vector| vector.request);
-            requests::compare("vectors", requests, &command_of(command)?)?
+            requests::compare("vectors", vectors::requests(), &command_of(command)?)?
         }
         _ => {
             let (files, command) = files_of(words)?;
@@ -39,10 +37,6 @@ pub fn compare(words: &[&str], output: &mut impl Write) -> Result<(), Failure> {
         return Err(Failure::Message("there is nothing to compare".to_string()));
     }
     Ok(writeln!(output, "{alike}")?)
-}
-
-fn usage() -> Failure {
-    Failure::Message(USAGE.to_string())
 }
 
 fn command_of<'a>(words: &'a [&'a str]) -> Result<Command<'a>, Failure> {
@@ -61,13 +55,21 @@ fn files_of<'a>(words: &'a [&'a str]) -> Result<(Files, &'a [&'a str]), Failure>
             (Box::new(files), command)
         }
         ["captures", command @ ..] => {
-            let captured = |name| Some((format!("capture {name}"), captures::capture(name)?));
-            let files = captures::names().into_iter().filter_map(captured);
-            (Box::new(files), command)
+            let captured = |name| {
+                let file = captures::capture(name).expect("it has a name");
+                (format!("capture {name}"), file)
+            };
+            (
+                Box::new(captures::names().into_iter().map(captured)),
+                command,
+            )
         }
         ["frames", command @ ..] => {
-            let frame = |code| Some((format!("frames {code} 1 1"), frames(code, 1, 1).ok()?));
-            (Box::new((0..=11).filter_map(frame)), command)
+            let frame = |code| {
+                let file = frames(code, 1, 1).expect("the raster is of the table");
+                (format!("frames {code} 1 1"), file)
+            };
+            (Box::new((0..=11).map(frame)), command)
         }
         ["cuts", command @ ..] => {
             let file = cuts::file();
@@ -75,8 +77,11 @@ fn files_of<'a>(words: &'a [&'a str]) -> Result<(Files, &'a [&'a str]), Failure>
             (Box::new((0..=cuts::file().len()).map(cut)), command)
         }
         ["fixed", command @ ..] => {
-            let made = |number| Some((format!("fixed {number}"), fixed::file(number)?));
-            (Box::new((0..fixed::count()).filter_map(made)), command)
+            let made = |number| {
+                let file = fixed::file(number).expect("its number is below the count");
+                (format!("fixed {number}"), file)
+            };
+            (Box::new((0..fixed::count()).map(made)), command)
         }
         _ => return Err(usage()),
     })

@@ -1,5 +1,7 @@
 //! A desk: it is lent the bytes of a bench file, cut anywhere, and tells what comes of them.
 
+#[cfg(test)]
+mod as_bench;
 mod outcome;
 pub mod reader;
 
@@ -23,7 +25,11 @@ impl Desk {
     /// The desk with another session.
     pub fn with_session(self, numbers: Numbers) -> Self {
         let session = numbers.session().ok();
-        Self { running: session.filter(|_| numbers.open), idle: numbers, ..self }
+        Self {
+            running: session.filter(|_| numbers.open),
+            idle: numbers,
+            ..self
+        }
     }
 
     /// The numbers of its session.
@@ -32,10 +38,17 @@ impl Desk {
     }
 
     /// Takes bytes up to the one that ends a job or is refused; answers how many it took, and what comes of them.
-    pub fn take(&mut self, bytes: &[u8], buffers: &mut Buffers) -> Result<(usize, Outcome), Refusal> {
+    pub fn take(
+        &mut self,
+        bytes: &[u8],
+        buffers: &mut Buffers,
+    ) -> Result<(usize, Outcome), Refusal> {
         let short = |buffer: &&mut [u16]| buffer.len() < longest_row();
         refuse(&[
-            (Refusal::Session, self.reader.is_in_words() && self.running.is_none()),
+            (
+                Refusal::Session,
+                self.reader.is_in_words() && self.running.is_none(),
+            ),
             (Refusal::Short, buffers.iter().any(short)),
         ])?;
         for (place, &byte) in bytes.iter().enumerate() {
@@ -64,14 +77,17 @@ impl Desk {
     /// "Its session is begun anew when the options are read".
     fn begin(&mut self, raster: u8) {
         let mut session = Session::default();
-        session.begin(raster.into()).expect("it is fresh, and the raster was read");
+        session
+            .begin(raster.into())
+            .expect("it is fresh, and the raster was read");
         self.running = Some(session);
     }
 
     /// "fed a word at a time"; a session is running while words are read.
     fn feed(&mut self, word: u16, buffers: &mut Buffers) {
         if let Some(session) = &mut self.running {
-            session.take_words(&[word], buffers);
+            let fed = session.feed(&[word], buffers);
+            fed.expect("it is open, and word and buffers were judged");
         }
     }
 
@@ -107,5 +123,9 @@ impl Desk {
 
 /// "1 where a buffer has fewer than 4,125 words, whatever the raster": T of the longest row.
 pub fn longest_row() -> usize {
-    TABLE.map(|raster| raster.total).into_iter().max().unwrap_or(0) as usize
+    TABLE
+        .map(|raster| raster.total)
+        .into_iter()
+        .max()
+        .unwrap_or(0) as usize
 }

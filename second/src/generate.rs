@@ -10,7 +10,6 @@ mod coverage;
 pub mod cuts;
 mod desk_requests;
 mod desks;
-mod faults;
 pub mod files;
 pub mod fixed;
 pub mod frames;
@@ -22,20 +21,15 @@ mod packet_requests;
 mod picture;
 mod pieces;
 mod rasters;
+mod refused_rows;
 mod regions;
 mod row_requests;
 mod rows;
-#[cfg(test)]
-mod section_ends;
 mod session_requests;
 mod sessions;
 pub mod signals;
 mod streams;
 mod syncs;
-#[cfg(test)]
-mod walk;
-#[cfg(test)]
-mod whole_desks;
 
 use crate::functions::*;
 use crate::random::Random;
@@ -75,7 +69,7 @@ const MAKERS: [(u32, Maker); 27] = [
     (4, Generator::outcome_line),
 ];
 
-pub struct Generator {
+struct Generator {
     random: Random,
     /// The next of the lines that eleven bits can hold, taken in turn so that all of them come.
     line: u32,
@@ -83,12 +77,22 @@ pub struct Generator {
     turn: usize,
 }
 
+/// The same seed, the same requests.
+pub fn requests(seed: u64, count: u64) -> impl Iterator<Item = Request> {
+    let mut generator = Generator::new(seed);
+    (0..count).map(move |_| generator.request())
+}
+
 impl Generator {
-    pub fn new(seed: u64) -> Self {
-        Self { random: Random::new(seed), line: 0, turn: 0 }
+    fn new(seed: u64) -> Self {
+        Self {
+            random: Random::new(seed),
+            line: 0,
+            turn: 0,
+        }
     }
 
-    pub fn request(&mut self) -> Request {
+    fn request(&mut self) -> Request {
         let weights: u32 = MAKERS.iter().map(|(weight, _)| weight).sum();
         let mut chosen = self.random.below(weights);
         for (weight, maker) in MAKERS {
@@ -120,7 +124,11 @@ impl Generator {
     }
 
     fn v_and_f(&mut self) -> Request {
-        vec![V_AND_F, rasters::code(&mut self.random), rasters::line(&mut self.random)]
+        vec![
+            V_AND_F,
+            rasters::code(&mut self.random),
+            rasters::line(&mut self.random),
+        ]
     }
 
     fn crc_after_words(&mut self) -> Request {
@@ -173,8 +181,11 @@ impl Generator {
     }
 
     fn read_line(&mut self) -> Request {
-        let (ln0, ln1) =
-            if self.random.bit() { timing::encode_line(self.next_line()) } else { codes::line_words(&mut self.random) };
+        let (ln0, ln1) = if self.random.bit() {
+            timing::encode_line(self.next_line())
+        } else {
+            codes::line_words(&mut self.random)
+        };
         let code = rasters::code(&mut self.random);
         vec![READ_LINE, code, ln0.into(), ln1.into()]
     }
@@ -186,5 +197,7 @@ fn request(parts: &[&[u32]]) -> Request {
 
 fn list(words: &[u16]) -> Vec<u32> {
     let elements = words.iter().map(|&word| u32::from(word));
-    std::iter::once(words.len() as u32).chain(elements).collect()
+    std::iter::once(words.len() as u32)
+        .chain(elements)
+        .collect()
 }

@@ -69,5 +69,7 @@ fn refusable<const COUNT: usize>(result: Result<[u32; COUNT], Refusal>) -> Vec<u
 
 fn list(elements: &[u16]) -> Vec<u32> {
     let count = elements.len() as u32;
-    std::iter::once(count).chain(elements.iter().map(|&element| element.into())).collect()
+    std::iter::once(count)
+        .chain(elements.iter().map(|&element| element.into()))
+        .collect()
 }

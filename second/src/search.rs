@@ -9,7 +9,9 @@ use crate::words::fill;
 /// The whole packets of a channel.
 fn packets<'a>(layout: &Layout, words: &'a [u16]) -> Vec<&'a [u16]> {
     let regions = layout.packet_regions().into_iter();
-    regions.flat_map(|region| whole_packets(&words[region])).collect()
+    regions
+        .flat_map(|region| whole_packets(&words[region]))
+        .collect()
 }
 
 /// "The first whole packet with a wanted pair, Y before C, from its 000 to its checksum [..]; if none, an empty part of Y."
@@ -21,7 +23,13 @@ pub fn find(code: u32, line: u32, wanted: (u8, u8), row: Row<'_>) -> Result<&[u1
 }
 
 /// "Extraction copies all whole packets of a channel, in order, end to end." Answers how many words they have.
-pub fn extract(code: u32, line: u32, channel: usize, row: Row, output: &mut [u16]) -> Result<usize, Refusal> {
+pub fn extract(
+    code: u32,
+    line: u32,
+    channel: usize,
+    row: Row,
+    output: &mut [u16],
+) -> Result<usize, Refusal> {
     let layout = readable(code, line, row)?;
     let copied = packets(&layout, row[channel]).concat();
     refuse(&[(Refusal::Short, output.len() < copied.len())])?;

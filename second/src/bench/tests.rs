@@ -20,7 +20,10 @@ fn assert_refused(bytes: &[u8], number: u32) {
     let good = job(&[]).bytes();
     let refused = format!("bad file {number}\n");
     assert_eq!(printed(bytes), refused, "{bytes:x?}");
-    assert_eq!(printed(&*[&good, bytes].concat()), A17.to_string() + &refused);
+    assert_eq!(
+        printed(&*[&good, bytes].concat()),
+        A17.to_string() + &refused
+    );
 }
 
 /// The same for bytes that are refused before their end.
@@ -167,7 +170,10 @@ fn of_two_sections_the_first_decides() {
 #[test]
 fn a_file_cut_at_any_byte() {
     let file = cuts::file();
-    let lines = ["CUT-1 raster 1 rows 0 faults 0 SHORT\n", "CUT-2 raster 7 rows 0 faults 1 FAIL\n"];
+    let lines = [
+        "CUT-1 raster 1 rows 0 faults 0 SHORT\n",
+        "CUT-2 raster 7 rows 0 faults 1 FAIL\n",
+    ];
     let second = file.windows(5).position(|bytes| bytes == b"CUT-2");
     let jobs = [second.expect("its tag is there") - 4, file.len()];
     for end in 0..=file.len() {

@@ -101,7 +101,10 @@ impl Parts {
 
     /// A bench file of no jobs, only bytes.
     pub fn of_bytes(bytes: &[u8]) -> Self {
-        let rest = Piece { kind: Kind::Rest, numbers: bytes.iter().map(|&byte| byte.into()).collect() };
+        let rest = Piece {
+            kind: Kind::Rest,
+            numbers: bytes.iter().map(|&byte| byte.into()).collect(),
+        };
         let (function, pieces) = (None, vec![rest]);
         Self { function, pieces }
     }
@@ -146,13 +149,16 @@ impl Parts {
     pub fn without_jobs(&self, jobs: Range<usize>) -> Self {
         let mut parts = self.clone();
         let sections = SECTIONS.len();
-        parts.pieces.drain(sections * jobs.start..sections * jobs.end);
+        parts
+            .pieces
+            .drain(sections * jobs.start..sections * jobs.end);
         parts
     }
 
     /// The feeds of a module cannot take more words than there are.
     fn mend_lengths(&mut self) {
-        let (Some(MODULE), [_, lengths, _, twos, list, ..]) = (self.function, &mut self.pieces[..]) else {
+        let (Some(MODULE), [_, lengths, _, twos, list, ..]) = (self.function, &mut self.pieces[..])
+        else {
             return;
         };
         let times = twos.numbers.chunks(3).map(|run| run[0] as usize);
@@ -172,7 +178,11 @@ fn first_job(bytes: &[u8]) -> Option<(Vec<Piece>, &[u8])> {
         let (count, after) = left.split_first_chunk()?;
         let count = u32::from_le_bytes(*count) as usize;
         let (section, after) = after.split_at_checked(count.checked_mul(width)?)?;
-        let number = |bytes: &[u8]| bytes.iter().rfold(0, |high, &low| high << 8 | u32::from(low));
+        let number = |bytes: &[u8]| {
+            bytes
+                .iter()
+                .rfold(0, |high, &low| high << 8 | u32::from(low))
+        };
         let numbers = section.chunks(width).map(number).collect();
         pieces.push(Piece { kind, numbers });
         left = after;
@@ -221,15 +231,12 @@ fn arguments(function: u32) -> Option<&'static [Kind]> {
 #[cfg(test)]
 mod tests {
     use super::*;
-    use crate::generate::{files::file, Generator};
+    use crate::generate::{files::file, requests};
     use crate::vectors;
 
     #[test]
     fn every_request_is_put_together_again() {
-        let mut generator = Generator::new(9);
-        let requests = (0..3000).map(|_| generator.request());
-        let vectors = vectors::all().into_iter().map(|vector| vector.request);
-        for request in requests.chain(vectors) {
+        for request in requests(9, 3000).chain(vectors::requests()) {
             let parts = Parts::of_request(&request).expect("it is a request");
             assert!(parts.put() == format_line(&request).into_bytes());
         }

@@ -1,21 +1,28 @@
 //! Requests, put to the command all in one run; the first that differs is shrunk.
 
-use super::answers::{Difference, Judge};
 use super::budget::Budget;
 use super::command::Command;
+use super::judge::{Difference, Judge};
 use super::parts::Parts;
 use super::shrinking::Shrinking;
 use crate::requests::{answer, format_line};
 use crate::Failure;
 
 /// How many are answered alike, which are all of them.
-pub fn compare(made_by: &str, requests: impl Iterator<Item = Vec<u32>>, command: &Command) -> Result<usize, Failure> {
+pub fn compare(
+    made_by: &str,
+    requests: impl Iterator<Item = Vec<u32>>,
+    command: &Command,
+) -> Result<usize, Failure> {
     let lines: Vec<String> = requests.map(|request| format_line(&request)).collect();
     let Some(difference) = Judge::new(command, Budget::endless()).first_difference(&lines)? else {
         return Ok(lines.len());
     };
     let place = difference.place;
-    let first = Shown { line: lines[place].clone(), theirs: difference.theirs };
+    let first = Shown {
+        line: lines[place].clone(),
+        theirs: difference.theirs,
+    };
     let (Shown { line, theirs }, note) = shrunk(first, command)?;
     let own = answer(&line).map_err(Failure::Message)?;
     Err(Failure::Message(format!(
@@ -33,7 +40,10 @@ struct Shown {
 /// The smallest found, and what is to be said of it.
 fn shrunk(first: Shown, command: &Command) -> Result<(Shown, String), Failure> {
     let mut judge = Judge::new(command, Budget::to_shrink());
-    if judge.first_difference(std::slice::from_ref(&first.line))?.is_none() {
+    if judge
+        .first_difference(std::slice::from_ref(&first.line))?
+        .is_none()
+    {
         let note = "not shrunk: put alone it is answered alike, so what was put before it matters";
         return Ok((first, note.to_string()));
     }

@@ -66,36 +66,23 @@ where
         Ok(())
     }
 
-    /// Fewer elements: all, halves, quarters .. single ones, at the ends and then anywhere.
+    /// Fewer elements: all, halves, quarters .. single ones.
     fn shorten(&mut self, index: usize) -> Result<(), Error> {
         self.pass(index, usize::MAX, |piece, _| simpler(piece))?;
         let piece = &self.parts.pieces[index];
         let Some(width) = piece.kind.width().filter(|_| !is_plain(piece)) else {
             return Ok(());
         };
-        self.drop_end(index, |_, size| 0..size * width)?;
-        self.drop_end(index, |length, size| length - size * width..length)?;
         for elements in halvings(self.parts.pieces[index].numbers.len() / width) {
             let size = elements * width;
-            self.pass(index, size, |piece, place| vec![without(piece, place..place + size)])?;
+            self.pass(index, size, |piece, place| {
+                vec![without(piece, place..place + size)]
+            })?;
             // No two neighbours are parted by the steps, and two are the fewest that can melt.
             let (step, size) = (elements.div_ceil(2) * width, elements.max(2) * width);
-            self.pass(index, step, |piece, place| melted(piece, place..place + size))?;
-        }
-        Ok(())
-    }
-
-    /// Drops from one end as much as can be, given by how many numbers there are and how many elements are dropped.
-    fn drop_end(&mut self, index: usize, end: impl Fn(usize, usize) -> std::ops::Range<usize>) -> Result<(), Error> {
-        let width = self.parts.pieces[index].kind.width().unwrap_or(1);
-        let mut size = self.parts.pieces[index].numbers.len() / width;
-        while size > 0 {
-            let piece = &self.parts.pieces[index];
-            let shorter = without(piece, end(piece.numbers.len(), size));
-            if !self.keeps(self.parts.with(index, shorter))? {
-                size /= 2;
-            }
-            size = size.min(self.parts.pieces[index].numbers.len() / width);
+            self.pass(index, step, |piece, place| {
+                melted(piece, place..place + size)
+            })?;
         }
         Ok(())
     }
@@ -107,7 +94,9 @@ where
         if let Some(width) = kind.width().filter(|_| !is_plain(piece)) {
             for elements in halvings(piece.numbers.len() / width) {
                 let size = elements * width;
-                self.pass(index, size, |piece, place| vec![cleared(piece, place..place + size)])?;
+                self.pass(index, size, |piece, place| {
+                    vec![cleared(piece, place..place + size)]
+                })?;
             }
         }
         if [Kind::Tag, Kind::Options, Kind::Words, Kind::Rest].contains(&kind) {
@@ -188,7 +177,7 @@ where
 mod tests {
     use super::*;
     use crate::functions::*;
-    use crate::generate::Generator;
+    use crate::generate::requests;
     use crate::job::Job;
     use crate::requests::format_line;
     use std::convert::Infallible;
@@ -219,7 +208,9 @@ mod tests {
     /// Whether the argument has these numbers in this order, whatever is between them.
     fn has(parts: &Parts, index: usize, wanted: &[u32]) -> bool {
         let mut numbers = parts.pieces[index].numbers.iter();
-        wanted.iter().all(|number| numbers.any(|other| other == number))
+        wanted
+            .iter()
+            .all(|number| numbers.any(|other| other == number))
     }
 
     #[test]
@@ -240,7 +231,9 @@ mod tests {
             let runs = parts.pieces[index].numbers.chunks(2);
             runs.map(|run| run[0]).sum()
         };
-        let fits = |parts: &Parts| has(parts, 3, &[555]) && [3, 4].iter().all(|&index| total(parts, index) == 1650);
+        let fits = |parts: &Parts| {
+            has(parts, 3, &[555]) && [3, 4].iter().all(|&index| total(parts, index) == 1650)
+        };
         let expected = [CHECK_ROW, 0, 0, 0, 0, 0, 1, 1650, 555, 1, 1650, 0];
         assert_smallest(&request, fits, &expected);
     }
@@ -262,7 +255,11 @@ mod tests {
     #[test]
     fn jobs_and_words_anywhere_are_dropped() {
         let words: Vec<u16> = (0..1000).collect();
-        let jobs = [job("B02", 0, &[1, 2, 3]), job("B03", 4, &words), job("B04", 7, &words)];
+        let jobs = [
+            job("B02", 0, &[1, 2, 3]),
+            job("B03", 4, &words),
+            job("B04", 7, &words),
+        ];
         let (file, tried) = smallest_with(&jobs.concat(), &[100, 900]);
         // Three counts, the tag `A`, the options and two words are left.
         assert_eq!((file.jobs(), file.put().len()), (1, 12 + 1 + 2 + 4));
@@ -291,9 +288,8 @@ mod tests {
     /// Where all differ hardly anything is left.
     #[test]
     fn every_request_gets_small() {
-        let mut generator = Generator::new(77);
-        for _ in 0..400 {
-            let parts = Parts::of_request(&generator.request()).expect("it is a request");
+        for request in requests(77, 400) {
+            let parts = Parts::of_request(&request).expect("it is a request");
             let (found, _) = smallest(parts, |_| true);
             let numbers = || found.pieces.iter().flat_map(|piece| &piece.numbers);
             assert!(numbers().all(|&number| number == 0), "{found:x?}");

@@ -42,7 +42,9 @@ impl Outcome {
     pub fn line(&self) -> Vec<u8> {
         match self {
             Self::Nothing => Vec::new(),
-            Self::Done(job) => line::of_job(&job.tag, [job.raster, job.rows, job.faults], job.verdict),
+            Self::Done(job) => {
+                line::of_job(&job.tag, [job.raster, job.rows, job.faults], job.verdict)
+            }
             Self::Refused(number) => line::of_refusal(*number),
         }
     }

@@ -53,7 +53,7 @@ pub struct Ended {
 }
 
 impl Reader {
-    /// Whether words are read: "its options are read, and its job has not ended".
+    /// Whether words are read: "the options of a job are read, and the job has not ended".
     pub fn is_in_words(&self) -> bool {
         matches!(self.stage, Stage::WordCount | Stage::Low | Stage::High)
     }
@@ -75,7 +75,10 @@ impl Reader {
             Ok(piece) => (piece, None),
             Err(refusal) => {
                 let stage = Stage::Stopped;
-                *self = Self { stage, ..Self::default() };
+                *self = Self {
+                    stage,
+                    ..Self::default()
+                };
                 (Piece::Refused(refusal), None)
             }
         }
@@ -147,7 +150,10 @@ impl Reader {
 
     /// "Order where several apply: [..] 9, 4": "wipe not 0 or 1" before "raster not 0..11".
     fn read_wipe(&mut self, byte: u8) -> Result<Piece, Refusal> {
-        refuse(&[(Refusal::File, byte > 1), (Refusal::Raster, raster_of(self.raster.into()).is_err())])?;
+        refuse(&[
+            (Refusal::File, byte > 1),
+            (Refusal::Raster, raster_of(self.raster.into()).is_err()),
+        ])?;
         self.wipe = byte == 1;
         self.stage = Stage::WordCount;
         Ok(Piece::Options(self.raster))

@@ -72,7 +72,10 @@ fn raster(number: usize) -> u8 {
 fn stretches(alignment: usize) -> Vec<Capture> {
     let mut captures = Vec::new();
     for place in 0..PAIR_BITS {
-        for (ones, zeros) in ONES.iter().flat_map(|&ones| ZEROS.map(|zeros| (ones, zeros))) {
+        for (ones, zeros) in ONES
+            .iter()
+            .flat_map(|&ones| ZEROS.map(|zeros| (ones, zeros)))
+        {
             let (laid, more) = (stretch(ones, zeros), 1 + place % 3);
             let bits = laid_at(alignment, place, &laid, ones + zeros, more);
             captures.push((raster(captures.len()), bits));
@@ -96,7 +99,10 @@ fn broken(alignment: usize) -> Vec<Capture> {
 fn codes(alignment: usize) -> Vec<Capture> {
     let mut captures = Vec::new();
     for place in 0..PAIR_BITS {
-        for (h, more) in [false, true].into_iter().flat_map(|h| [0, 1, 2].map(|more| (h, more))) {
+        for (h, more) in [false, true]
+            .into_iter()
+            .flat_map(|h| [0, 1, 2].map(|more| (h, more)))
+        {
             let bits = laid_at(alignment, place, &code(h), SYNC_BITS - 1, more);
             captures.push((raster(captures.len()), bits));
         }

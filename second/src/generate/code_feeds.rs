@@ -122,5 +122,9 @@ fn fed(random: &mut Random, numbers: Numbers, bits: &[bool], cut: usize) -> Feed
     let total = sessions::raster(&numbers).total as usize;
     let mut buffers = [(); 2].map(|()| vec![random.short(0, 0xffff); total]);
     fill_buffers(random, &mut buffers, numbers.pairs as usize);
-    Feed { numbers, words: signals::whole_words(&bits[cut..]), buffers }
+    Feed {
+        numbers,
+        words: signals::whole_words(&bits[cut..]),
+        buffers,
+    }
 }

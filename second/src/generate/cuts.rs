@@ -7,7 +7,10 @@ use crate::timing::{xyz, SYNC_WORDS};
 
 /// Two jobs: one EAV and the pair after it; two EAVs too near to one another, read as the local cameras' raster.
 pub fn file() -> Vec<u8> {
-    let jobs = [Job::new("CUT-1", 1, false, recorded(5, 1)), Job::new("CUT-2", 0, true, recorded(13, 2))];
+    let jobs = [
+        Job::new("CUT-1", 1, false, recorded(5, 1)),
+        Job::new("CUT-2", 0, true, recorded(13, 2)),
+    ];
     jobs.iter().flat_map(Job::bytes).collect()
 }
 

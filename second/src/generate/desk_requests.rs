@@ -33,7 +33,12 @@ impl Generator {
     }
 
     pub(super) fn take(&mut self) -> Request {
-        let Lent { lengths, bytes, numbers, buffers } = lent(&mut self.random);
+        let Lent {
+            lengths,
+            bytes,
+            numbers,
+            buffers,
+        } = lent(&mut self.random);
         let taken = [list(&lengths), byte_list(&bytes)].concat();
         request(&[&[TAKE], &taken, &numbers.list(), &both(&buffers)])
     }

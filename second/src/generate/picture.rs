@@ -28,7 +28,10 @@ pub fn active(code: u32, line: u32) -> [Vec<u16>; 2] {
     let [dark, bright] = RAMP;
     let ramp = |place| (place + 4 * line as usize) % count * (bright - dark) / count + dark;
     let bar = |place: usize| BARS[place * BARS.len() / count][place % 2];
-    [(0..count).map(|place| ramp(place) as u16).collect(), (0..count).map(bar).collect()]
+    [
+        (0..count).map(|place| ramp(place) as u16).collect(),
+        (0..count).map(bar).collect(),
+    ]
 }
 
 /// The packets of Y and C: a payload identifier in every 25th row, and in every tenth a packet that counts them.

@@ -141,7 +141,11 @@ fn feed_in_a_row(random: &mut Random) -> Feed {
     if numbers.line == 0 && random.bit() {
         spoil_line_words(random, &mut buffers[Y]);
     }
-    Feed { numbers, words: signals::whole_words(&bits[cut..]), buffers }
+    Feed {
+        numbers,
+        words: signals::whole_words(&bits[cut..]),
+        buffers,
+    }
 }
 
 /// A row that has no flag, often of the last line, or one that may have any.
@@ -211,5 +215,9 @@ fn short_feed(random: &mut Random) -> Feed {
         let more = random.pick(&[0, 0, 0, 1, 9]);
         lists::buffer_of_runs(random, total + more)
     });
-    Feed { numbers, words: signals::whole_words(&bits[cut..]), buffers }
+    Feed {
+        numbers,
+        words: signals::whole_words(&bits[cut..]),
+        buffers,
+    }
 }

@@ -22,7 +22,10 @@ pub fn row_bits(row: &[Vec<u16>; 2], places: Range<usize>) -> Vec<bool> {
 
 /// A sync and its XYZ pair.
 pub fn code_bits(xyz: [u16; 2]) -> Vec<bool> {
-    let mut bits: Vec<bool> = SYNC_WORDS.into_iter().flat_map(|word| pair_bits([word; 2])).collect();
+    let mut bits: Vec<bool> = SYNC_WORDS
+        .into_iter()
+        .flat_map(|word| pair_bits([word; 2]))
+        .collect();
     bits.extend(pair_bits(xyz));
     bits
 }
@@ -86,7 +89,14 @@ fn overlapped(random: &mut Random) -> Vec<bool> {
 /// A pair of a picture, or any.
 pub fn pair(random: &mut Random) -> [u16; 2] {
     let any = [random.short(0, 0x3ff), random.short(0, 0x3ff)];
-    random.pick(&[[0x040, 0x200], [0x040, 0x200], [0x000, 0x000], [0x3ff, 0x3ff], any, any])
+    random.pick(&[
+        [0x040, 0x200],
+        [0x040, 0x200],
+        [0x000, 0x000],
+        [0x3ff, 0x3ff],
+        any,
+        any,
+    ])
 }
 
 fn pairs(random: &mut Random, count: u32) -> Vec<bool> {

@@ -82,7 +82,11 @@ fn following(random: &mut Random, code: u32, kind: Kind, count: u32) -> Vec<bool
     let mut bits = signals::noise(random, before);
     let line = rasters::line_of(random, code);
     let last = rows_of(code);
-    let mut head = Head { code, line: random.pick(&[last - 1, last, line, line]), carry: None };
+    let mut head = Head {
+        code,
+        line: random.pick(&[last - 1, last, line, line]),
+        carry: None,
+    };
     for _ in 0..count {
         let row = row(random, head, kind);
         bits.extend(signals::row_bits(&row.words, 0..row.words[0].len()));
@@ -129,10 +133,19 @@ pub fn built_row(random: &mut Random, head: Head, busy: bool) -> Row {
         words
     });
     let [mut y, mut c] = [vec![0; layout.total()], vec![0; layout.total()]];
-    let built =
-        build(head.code, head.line, head.carry, active.each_ref().map(Vec::as_slice), [&[]; 2], [&mut y, &mut c]);
+    let built = build(
+        head.code,
+        head.line,
+        head.carry,
+        active.each_ref().map(Vec::as_slice),
+        [&[]; 2],
+        [&mut y, &mut c],
+    );
     built.expect("the row can be built");
-    Row { head, words: [y, c] }
+    Row {
+        head,
+        words: [y, c],
+    }
 }
 
 /// The line after, or now and then another: a row is missing, comes twice, or is any.

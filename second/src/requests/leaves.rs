@@ -13,7 +13,11 @@ pub fn raster_row(arguments: &mut Arguments) -> Answer {
 }
 
 pub fn name_raster(arguments: &mut Arguments) -> Answer {
-    let (total, active, rows) = (arguments.number()?, arguments.number()?, arguments.number()?);
+    let (total, active, rows) = (
+        arguments.number()?,
+        arguments.number()?,
+        arguments.number()?,
+    );
     let kind = match arguments.flag()? {
         true => Kind::TwoFields,
         false => Kind::Progressive,

@@ -7,7 +7,9 @@ use crate::functions::*;
 use crate::runs::runs;
 
 /// A packet of C: DID 61, SDID 02, user words 004 and 3FB; its checksum is worked by hand.
-pub const OTHER: [u16; 9] = [0x000, 0x3ff, 0x3ff, 0x161, 0x102, 0x102, 0x004, 0x3fb, 0x164];
+pub const OTHER: [u16; 9] = [
+    0x000, 0x3ff, 0x3ff, 0x161, 0x102, 0x102, 0x004, 0x3fb, 0x164,
+];
 pub const CARRY: [u32; 2] = [0x12345, 0x3ffff];
 pub const PACKETS: [&[u16]; 2] = [&NINTH, &OTHER];
 pub const BLANKING: [u16; 2] = [0x040, 0x200];
@@ -59,7 +61,13 @@ fn row((code, line, v, [eav, sav], line_words): Entry) -> Row {
         [&start, &sav[..], &picture, last].concat()
     });
     let sav = 8 + hanc;
-    Row { code, line, v, sav, words }
+    Row {
+        code,
+        line,
+        v,
+        sav,
+        words,
+    }
 }
 
 fn crc(register: u32, covered: &[u16]) -> [u16; 2] {
@@ -77,7 +85,10 @@ impl Row {
     }
 
     pub fn next_carry(&self) -> [u32; 3] {
-        let [y, c] = self.words.each_ref().map(|words| after_words(0, &words[self.sav + 4..]));
+        let [y, c] = self
+            .words
+            .each_ref()
+            .map(|words| after_words(0, &words[self.sav + 4..]));
         [1, y, c]
     }
 
@@ -102,9 +113,15 @@ impl Row {
     /// It is what is built of its active words, and of its blanking up to the packet's end.
     fn built(&self, carry: bool) -> Vector {
         let start = [BUILD_ROW, self.code, self.line];
-        let active = self.words.iter().flat_map(|words| runs(&words[self.sav + 4..]));
+        let active = self
+            .words
+            .iter()
+            .flat_map(|words| runs(&words[self.sav + 4..]));
         let blanking = PACKETS.into_iter().flat_map(runs);
-        let buffers = self.words.iter().flat_map(|words| runs(&vec![0xffff; words.len()]));
+        let buffers = self
+            .words
+            .iter()
+            .flat_map(|words| runs(&vec![0xffff; words.len()]));
         let parts = active.chain(blanking).chain(buffers).collect();
         let request = [start.to_vec(), carry_numbers(carry).to_vec(), parts].concat();
         vector(&request, &made(self))

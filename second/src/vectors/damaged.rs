@@ -110,7 +110,10 @@ fn checksums(row: &Row, channel: usize) -> Vec<Vector> {
 
 /// Damage that correction leaves as it is.
 fn left(damaged: &Row, flag: u32) -> [Vector; 2] {
-    [damaged.checked(true, flag), damaged.corrected(true, 0, damaged)]
+    [
+        damaged.checked(true, flag),
+        damaged.corrected(true, 0, damaged),
+    ]
 }
 
 /// At the end of the blanking: a marker alone, a packet that lacks its last word, one that lacks nothing, and a marker
@@ -127,7 +130,11 @@ fn cut(row: &Row, channel: usize) -> Vec<Vector> {
 
 /// The reserved codes' limits, as the first active word of Y and, where V is 0, the last of C.
 fn reserved(row: &Row, channel: usize) -> Vec<Vector> {
-    let place = if row.v || channel == 0 { row.sav + 4 } else { row.words[channel].len() - 1 };
+    let place = if row.v || channel == 0 {
+        row.sav + 4
+    } else {
+        row.words[channel].len() - 1
+    };
     let flag = if row.v { 0 } else { RESERVED };
     [(0x003, flag), (0x004, 0), (0x3fb, 0), (0x3fc, flag)]
         .into_iter()

@@ -21,7 +21,13 @@ const NOTHING: [u32; 8] = [0; 8];
 const BAD_9: [u32; 8] = [2, 9, 0, 0, 0, 0, 0, 0];
 
 pub fn all() -> Vec<Vector> {
-    let groups = [at_a_desk(), refused_bytes(), refused_at_a_desk(), taken(), lines()];
+    let groups = [
+        at_a_desk(),
+        refused_bytes(),
+        refused_at_a_desk(),
+        taken(),
+        lines(),
+    ];
     groups.into_iter().flatten().collect()
 }
 
@@ -45,13 +51,28 @@ fn at_a_desk() -> Vec<Vector> {
     local[11] = 0;
     let (first, second): ([&[u32]; 2], [&[u32]; 2]) = ([&[0, 17], &a17], [&[0, 17], &b02]);
     // Lent by 5, 0, 12 and 16 bytes, and by the last.
-    let parts: [[&[u32]; 2]; 5] =
-        [[&[0, 5], &NOTHING], [&[0, 0], &NOTHING], [&[0, 12], &a17], [&[0, 16], &NOTHING], [&[0, 1], &b02]];
+    let parts: [[&[u32]; 2]; 5] = [
+        [&[0, 5], &NOTHING],
+        [&[0, 0], &NOTHING],
+        [&[0, 12], &a17],
+        [&[0, 16], &NOTHING],
+        [&[0, 1], &b02],
+    ];
     vec![
         desk(&[], &[], ENOUGH, &[&[0, 0], &NOTHING, &NOTHING]),
         desk(&[], &both, ENOUGH, &[&first[..], &[&NOTHING]].concat()),
-        desk(&[34], &both, ENOUGH, &[&first[..], &second, &[&NOTHING]].concat()),
-        desk(&[5, 0, 12, 16], &both, ENOUGH, &[&parts.concat()[..], &[&NOTHING]].concat()),
+        desk(
+            &[34],
+            &both,
+            ENOUGH,
+            &[&first[..], &second, &[&NOTHING]].concat(),
+        ),
+        desk(
+            &[5, 0, 12, 16],
+            &both,
+            ENOUGH,
+            &[&parts.concat()[..], &[&NOTHING]].concat(),
+        ),
         desk(&[], &local, ENOUGH, &[&second[..], &[&NOTHING]].concat()),
         desk(&[], &both[..16], ENOUGH, &[&[0, 16], &NOTHING, &BAD_9]),
     ]
@@ -98,9 +119,19 @@ fn refused_at_a_desk() -> Vec<Vector> {
     let refused: [&[u32]; 2] = [&[1, 0], &NOTHING];
     vec![
         desk(&[], &file, ENOUGH, &[&bad[..], &[&NOTHING]].concat()),
-        desk(&[9], &file, ENOUGH, &[&bad[..], &stopped, &[&NOTHING]].concat()),
+        desk(
+            &[9],
+            &file,
+            ENOUGH,
+            &[&bad[..], &stopped, &[&NOTHING]].concat(),
+        ),
         desk(&[], &A17, SHORT_Y, &[&refused[..], &[&NOTHING]].concat()),
-        desk(&[3], &A17, SHORT_C, &[&refused[..], &refused, &[&NOTHING]].concat()),
+        desk(
+            &[3],
+            &A17,
+            SHORT_C,
+            &[&refused[..], &refused, &[&NOTHING]].concat(),
+        ),
     ]
 }
 
@@ -132,7 +163,10 @@ fn take(
 fn taken() -> Vec<Vector> {
     let closed = Numbers::default();
     let counted = Numbers { rows: 5, ..closed };
-    let bad = Numbers { history: 0x400, ..of(1) };
+    let bad = Numbers {
+        history: 0x400,
+        ..of(1)
+    };
     let mut vectors = Vec::new();
     // Before the count of words, amid it, before a word's low byte, and before its high byte.
     for before in [0, 2, 4, 5].map(job_up_to) {
@@ -202,8 +236,14 @@ fn lines() -> Vec<Vector> {
         line(&done(&A17, 1), "A17 raster 1 rows 0 faults 0 NO SIGNAL\n"),
         line(&done(&B02, 7), "B02 raster 7 rows 0 faults 0 NO SIGNAL\n"),
         line(&wiped, "A raster 10 rows 4294967295 faults 100 FAIL\n"),
-        line(&[1, 0, 0, 2, 0, 750, 0, 4], " raster 2 rows 750 faults 0 PASS\n"),
-        line(&[1, 0, 0, 2, 0, 749, 0, 3], " raster 2 rows 749 faults 0 SHORT\n"),
+        line(
+            &[1, 0, 0, 2, 0, 750, 0, 4],
+            " raster 2 rows 750 faults 0 PASS\n",
+        ),
+        line(
+            &[1, 0, 0, 2, 0, 749, 0, 3],
+            " raster 2 rows 749 faults 0 SHORT\n",
+        ),
         line(&unsaid, " raster 1 rows 0 faults 0 \n"),
         line(&BAD_9, "bad file 9\n"),
         line(&[2, 4, 0, 0, 0, 0, 0, 0], "bad file 4\n"),

@@ -67,7 +67,11 @@ fn without_rows() -> Vec<Vector> {
         .collect();
     let nearly = [0x3ff, 0x3ff, 0x000, 0x000, 0x000, 0x200];
     for words in [[0x3ff; 6], [0x000; 6], nearly] {
-        let answer = Answer { counts: [0, 0], verdict: NO_SIGNAL, buffers: held() };
+        let answer = Answer {
+            counts: [0, 0],
+            verdict: NO_SIGNAL,
+            buffers: held(),
+        };
         vectors.extend(module(&words, answer));
     }
     vectors
@@ -86,7 +90,11 @@ fn after_eav(words: &[u16]) -> [Vec<u16>; 2] {
 
 /// One EAV, and two at several distances, which are not T pairs.
 fn eavs() -> Vec<Vector> {
-    let one = Answer { counts: [0, 0], verdict: SHORT, buffers: after_eav(&[]) };
+    let one = Answer {
+        counts: [0, 0],
+        verdict: SHORT,
+        buffers: after_eav(&[]),
+    };
     let mut vectors: Vec<Vector> = module(&EAV, one).into();
     for pairs in [0, 1, 5] {
         let between = BLANK.repeat(pairs);
@@ -101,7 +109,11 @@ fn eavs() -> Vec<Vector> {
     }
     // Half a pair off: the sync ends with the C word of a pair, whose Y word has no place any more.
     let words = [&[0x155], &EAV[..]].concat();
-    let misaligned = Answer { counts: [0, 1], verdict: FAIL, buffers: after_eav(&words[..6]) };
+    let misaligned = Answer {
+        counts: [0, 1],
+        verdict: FAIL,
+        buffers: after_eav(&words[..6]),
+    };
     vectors.extend(module(&[&EAV, &words[..]].concat(), misaligned));
     vectors
 }
@@ -130,15 +142,29 @@ fn row(before: Option<&Line>, line: &Line) -> [Vec<u16>; 2] {
 
 const LINES: [Line; 4] = [
     // 748, 749, 750, and 1 after them.
-    Line { numbers: [0x1b0, 0x214], picture: [0x3ac, 0x1e6] },
-    Line { numbers: [0x1b4, 0x214], picture: [0x040, 0x200] },
-    Line { numbers: [0x1b8, 0x214], picture: [0x3fb, 0x004] },
-    Line { numbers: [0x204, 0x200], picture: [0x155, 0x2aa] },
+    Line {
+        numbers: [0x1b0, 0x214],
+        picture: [0x3ac, 0x1e6],
+    },
+    Line {
+        numbers: [0x1b4, 0x214],
+        picture: [0x040, 0x200],
+    },
+    Line {
+        numbers: [0x1b8, 0x214],
+        picture: [0x3fb, 0x004],
+    },
+    Line {
+        numbers: [0x204, 0x200],
+        picture: [0x155, 0x2aa],
+    },
 ];
 
 /// The rows' words in cable order.
 fn cable_order(rows: &[[Vec<u16>; 2]]) -> Vec<u16> {
-    let pairs = rows.iter().flat_map(|[y, c]| y.iter().zip(c).flat_map(|(&y, &c)| [c, y]));
+    let pairs = rows
+        .iter()
+        .flat_map(|[y, c]| y.iter().zip(c).flat_map(|(&y, &c)| [c, y]));
     pairs.collect()
 }
 
@@ -146,11 +172,19 @@ fn cable_order(rows: &[[Vec<u16>; 2]]) -> Vec<u16> {
 /// dropped without a fault.
 fn rows() -> Vec<Vector> {
     let before = [None, Some(&LINES[0]), Some(&LINES[1]), Some(&LINES[2])];
-    let rows: Vec<[Vec<u16>; 2]> = before.into_iter().zip(&LINES).map(|(before, line)| row(before, line)).collect();
+    let rows: Vec<[Vec<u16>; 2]> = before
+        .into_iter()
+        .zip(&LINES)
+        .map(|(before, line)| row(before, line))
+        .collect();
     let mut vectors = Vec::new();
     for (first, count) in [(0, 3), (1, 3), (0, 4), (2, 2)] {
         let rows = &rows[first..first + count];
-        let answer = Answer { counts: [count as u32 - 2, 0], verdict: SHORT, buffers: rows[count - 1].clone() };
+        let answer = Answer {
+            counts: [count as u32 - 2, 0],
+            verdict: SHORT,
+            buffers: rows[count - 1].clone(),
+        };
         vectors.extend(module(&cable_order(rows), answer));
     }
     vectors
@@ -177,5 +211,9 @@ fn refused() -> Vec<Vector> {
     }
     let [y, c] = held.map(|words| runs(&words));
     let answer = [&[0, 3, 0, 3, 0, 0, 1, 0, 0, SHORT], &FRESH[..], &y, &c].concat();
-    vec![vector(&unbegun, &nothing), vector(&short, &no_signal), vector(&request, &answer)]
+    vec![
+        vector(&unbegun, &nothing),
+        vector(&short, &no_signal),
+        vector(&request, &answer),
+    ]
 }

@@ -55,7 +55,10 @@ impl Fed<'_> {
         };
         let signal = [1, 1, 1, c, y, 0];
         let request = [&[FEED], &before.list()[..], &signal, &self.row.runs()].concat();
-        vector(&request, &[&[0], &answer.list()[..], &buffers.runs()].concat())
+        vector(
+            &request,
+            &[&[0], &answer.list()[..], &buffers.runs()].concat(),
+        )
     }
 
     fn raster(&self) -> u32 {
@@ -152,7 +155,12 @@ fn lines_taken() -> Vec<Vector> {
             let mut row = row.clone();
             row.words[0][place] ^= bits;
             let fed = first_complete(&row);
-            let answer = Numbers { pairs: 4, rows: 5, faults: 7, ..of(fed.raster()) };
+            let answer = Numbers {
+                pairs: 4,
+                rows: 5,
+                faults: 7,
+                ..of(fed.raster())
+            };
             vectors.push(fed.answered(answer, &fed.opened()));
         }
     }
@@ -161,7 +169,14 @@ fn lines_taken() -> Vec<Vector> {
 
 /// The row is complete while no line is known.
 fn first_complete(row: &Row) -> Fed<'_> {
-    Fed { row, pairs: row.words[0].len() + 3, line: 0, carry: false, counts: [5, 6], xyz: [0x2d8, 0x2d8] }
+    Fed {
+        row,
+        pairs: row.words[0].len() + 3,
+        line: 0,
+        carry: false,
+        counts: [5, 6],
+        xyz: [0x2d8, 0x2d8],
+    }
 }
 
 /// "an EAV at another distance; the four pairs after the T-th not an EAV": they "drop the row, carry and expected line".
@@ -169,7 +184,14 @@ fn dropped() -> Vec<Vector> {
     let mut vectors = Vec::new();
     for row in rows() {
         let total = row.words[0].len();
-        let fed = |pairs, xyz| Fed { row: &row, pairs, line: row.line, carry: true, counts: [5, 6], xyz };
+        let fed = |pairs, xyz| Fed {
+            row: &row,
+            pairs,
+            line: row.line,
+            carry: true,
+            counts: [5, 6],
+            xyz,
+        };
         for pairs in [7, total - 1, total, total + 2] {
             let fed = fed(pairs, [0x274, 0x368]);
             let mut opened = fed.opened();
@@ -178,13 +200,22 @@ fn dropped() -> Vec<Vector> {
                 opened.words[0][pairs] = 0x368;
                 opened.words[1][pairs] = 0x274;
             }
-            let answer = Numbers { pairs: 4, rows: 5, faults: 7, ..of(fed.raster()) };
+            let answer = Numbers {
+                pairs: 4,
+                rows: 5,
+                faults: 7,
+                ..of(fed.raster())
+            };
             vectors.push(fed.answered(answer, &opened));
         }
         // An SAV; a Y word that is not exact; an EAV in C alone.
         for xyz in [[0x200, 0x200], [0x275, 0x275], [0x274, 0x200]] {
             let fed = fed(total + 3, xyz);
-            let answer = Numbers { rows: 5, faults: 7, ..of(fed.raster()) };
+            let answer = Numbers {
+                rows: 5,
+                faults: 7,
+                ..of(fed.raster())
+            };
             vectors.push(fed.answered(answer, &row));
         }
     }

@@ -1,11 +1,9 @@
 //! Rows whose packets are sought, copied and wiped.
 
 use super::built::{rows, Row, BLANKING, PACKETS};
-use super::packets::NINTH;
 use super::{vector, Vector};
 use crate::functions::*;
 use crate::runs::runs;
-use crate::words::lay;
 
 /// One row with packets in the blanking only, and one with packets in the active words too.
 pub fn all() -> Vec<Vector> {
@@ -16,8 +14,6 @@ pub fn all() -> Vec<Vector> {
             vectors.extend([0, 1].map(|channel| extracted(&row, channel)));
             vectors.push(row.corrected(true, 1, &wiped(&row)));
             vectors.push(wiped(&row).checked(true, 0));
-            vectors.extend(made_whole(&row));
-            vectors.extend(still_cut(&row));
             vectors
         })
         .collect()
@@ -29,7 +25,10 @@ fn sought(row: &Row) -> Vec<Vector> {
     [(0x41, 0x01, y), (0x61, 0x02, c), (0x41, 0x02, &[])]
         .into_iter()
         .map(|(did, sdid, part)| {
-            let request = [&[FIND_PACKET, row.code, row.line, did, sdid], &row.runs()[..]];
+            let request = [
+                &[FIND_PACKET, row.code, row.line, did, sdid],
+                &row.runs()[..],
+            ];
             vector(&request.concat(), &[&[0], &runs(part)[..]].concat())
         })
         .collect()
@@ -57,35 +56,4 @@ fn wiped(row: &Row) -> Row {
         }
     }
     wiped
-}
-
-/// A marker so many words before the SAV, whose DC lies in the packet that follows it.
-fn with_marker(row: &Row, channel: usize, distance: usize) -> Row {
-    let mut marked = row.clone();
-    let words = [&NINTH[..3], &NINTH].concat();
-    lay(&mut marked.words[channel], row.sav - distance, &words);
-    marked
-}
-
-/// Wiped, the marker's DC is a blanking word. In Y it is 040: 64 user words, and checksum 2C0, worked by hand; in C it is
-/// 200: no user words, and checksum 200, which is there already.
-fn made_whole(row: &Row) -> Vec<Vector> {
-    [(0, 70, 0x2c0), (1, 6, 0x200)]
-        .into_iter()
-        .flat_map(|(channel, last, checksum)| {
-            let marked = with_marker(row, channel, 100);
-            let mut whole = wiped(row);
-            lay(&mut whole.words[channel], row.sav - 100, &NINTH[..3]);
-            whole.words[channel][row.sav - 100 + last] = checksum;
-            [marked.checked(true, 1 << 7), marked.corrected(true, 1, &whole), whole.checked(true, 0)]
-        })
-        .collect()
-}
-
-/// One word too few for the 71 words that 040 asks for in Y.
-fn still_cut(row: &Row) -> [Vector; 2] {
-    let marked = with_marker(row, 0, 70);
-    let mut cut = wiped(row);
-    lay(&mut cut.words[0], row.sav - 70, &NINTH[..3]);
-    [marked.corrected(true, 1, &cut), cut.checked(true, 1 << 7)]
 }

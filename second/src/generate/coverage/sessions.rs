@@ -1,6 +1,6 @@
 //! What the requests of sessions hold.
 
-use super::{asked, feed, Asked, Tally};
+use super::{answered, asked, feed, Asked, Tally};
 use crate::arguments::Arguments;
 use crate::functions::*;
 use crate::layout::{Layout, CRC, EAV, LINE};
@@ -8,6 +8,10 @@ use crate::raster::raster_of;
 use crate::requests::format_line;
 use crate::session::Numbers;
 use crate::words::is_word;
+use std::ops::Range;
+
+/// Where rows and faults stand in a request of a feed.
+const COUNTS: Range<usize> = 14..16;
 
 /// The session before a call and after it, which stands at this place of the answer.
 fn sessions(asked: &Asked, place: usize) -> [Numbers; 2] {
@@ -15,6 +19,14 @@ fn sessions(asked: &Asked, place: usize) -> [Numbers; 2] {
     let after = Arguments::parse(&format_line(&asked.answer[place..]));
     let after = after.and_then(|mut numbers| numbers.session());
     [given, after].map(|numbers| numbers.expect("a session"))
+}
+
+/// How many rows and faults a feed counts: from counts of 0, for at the ceiling they stay.
+fn counted(asked: &Asked) -> [u32; 2] {
+    let mut request = asked.request.clone();
+    request[COUNTS].fill(0);
+    let [_, after] = sessions(&Asked::of(request), 1);
+    [after.rows, after.faults]
 }
 
 /// What a feed did to a session, as its numbers tell.
@@ -27,8 +39,7 @@ fn signs(asked: &Asked) -> Vec<String> {
             ""
         }
     };
-    let more = |before: u32, after: u32| after.wrapping_sub(before);
-    let (rows, faults) = (more(before.rows, after.rows), more(before.faults, after.faults));
+    let [rows, faults] = counted(asked);
     let mut signs = vec![
         format!("rows +{rows}{}", ceiling(before.rows)),
         format!("faults +{faults}{}", ceiling(before.faults)),
@@ -61,24 +72,42 @@ fn parts_above(asked: &Asked) -> impl Iterator<Item = &'static str> {
         ("SAV", layout.sav()),
         ("active words", layout.active()),
     ];
-    let above = move |part: &std::ops::Range<usize>| {
+    let above = move |part: &Range<usize>| {
         let part = part.start..part.end.min(come);
         let mut buffers = feed.buffers.iter();
         buffers.any(|words| words[part.clone()].iter().any(|&word| !is_word(word)))
     };
-    let parts = parts.into_iter().filter(move |(_, part)| part.start < come && above(part));
+    let parts = parts
+        .into_iter()
+        .filter(move |(_, part)| part.start < come && above(part));
     parts.map(|(name, _)| name)
 }
 
 #[test]
 fn everything_happens_to_rows_of_feeds() {
-    let running = asked(&[FEED]).filter(|asked| asked.answer[0] == 0);
-    let tally = Tally::of(running.flat_map(signs));
-    tally.assert_come(["rows +0", "rows +1", "faults +0", "faults +1", "faults +2"], 10);
-    tally.assert_come(["rows +0 at the ceiling", "faults +0 at the ceiling"], 10);
-    tally.assert_come(["rows +1, faults +0", "rows +1, faults +1", "rows +0, faults +1"], 10);
+    let tally = Tally::of(answered(&[FEED]).flat_map(signs));
+    tally.assert_come(
+        ["rows +0", "rows +1", "faults +0", "faults +1", "faults +2"],
+        10,
+    );
+    tally.assert_come(["rows +1 at the ceiling", "faults +1 at the ceiling"], 10);
+    tally.assert_come(
+        [
+            "rows +1, faults +0",
+            "rows +1, faults +1",
+            "rows +0, faults +1",
+        ],
+        10,
+    );
     tally.assert_come(["line taken", "line 1 after the last"], 10);
-    let parts = ["EAV", "line words", "CRC words", "blanking", "SAV", "active words"];
+    let parts = [
+        "EAV",
+        "line words",
+        "CRC words",
+        "blanking",
+        "SAV",
+        "active words",
+    ];
     tally.assert_come(parts.map(|part| format!("word above 3FF in the {part}")), 3);
 }
 
@@ -122,7 +151,9 @@ fn out_of_range(numbers: &Numbers) -> &'static str {
         ("ahead", |numbers| numbers.ahead = 0),
         ("pairs", |numbers| numbers.pairs = 4),
         ("bit", |numbers| numbers.bit = 0),
-        ("carry without a line", |numbers| numbers.line = numbers.line.max(1)),
+        ("carry without a line", |numbers| {
+            numbers.line = numbers.line.max(1)
+        }),
         ("line", |numbers| numbers.line = numbers.line.min(1)),
         ("carry", |numbers| numbers.carry = None),
         ("raster", |numbers| numbers.raster = numbers.open.into()),
@@ -142,7 +173,10 @@ fn every_number_is_out_of_range() {
         let sessions = sessions.map(|numbers| numbers.expect("a session"));
         let bad = sessions.filter(|numbers| !numbers.in_range());
         let tally = Tally::of(bad.map(|numbers| out_of_range(&numbers).to_string()));
-        tally.assert_come(["raster", "history", "last", "ahead", "pairs", "bit", "line"], 1);
+        tally.assert_come(
+            ["raster", "history", "last", "ahead", "pairs", "bit", "line"],
+            1,
+        );
         tally.assert_come(["carry", "carry without a line", "several"], 1);
     }
 }

@@ -30,7 +30,12 @@ pub fn spoil_parts(random: &mut Random, parts: &mut Parts) {
     let layout = parts.head.layout();
     for _ in 0..faults(random) {
         let channel = random.place(2);
-        let Parts { active, blanking, buffers, .. } = parts;
+        let Parts {
+            active,
+            blanking,
+            buffers,
+            ..
+        } = parts;
         match random.below(8) {
             0 => change_length(random, &mut active[channel]),
             1 => blanking[channel].resize(layout.blanking().len() + 1, 0x040),

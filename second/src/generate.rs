@@ -40,17 +40,25 @@ type Maker = fn(&mut Generator) -> Request;
 
 /// How often each function is asked for; the more there is to get wrong, the oftener.
 const MAKERS: [(u32, Maker); 27] = [
-    (1, Generator::raster_row),
-    (3, Generator::name_raster),
+    (1, |made| vec![RASTER_ROW, rasters::code(&mut made.random)]),
+    (3, |made| {
+        request(&[&[NAME_RASTER], &rasters::naming(&mut made.random)])
+    }),
     (4, Generator::v_and_f),
     (6, Generator::crc_after_words),
-    (3, Generator::crc_words),
-    (6, Generator::scramble),
-    (6, Generator::unscramble),
+    (3, |made| vec![CRC_WORDS, lists::register(&mut made.random)]),
+    (6, |made| made.scrambler(SCRAMBLE)),
+    (6, |made| made.scrambler(UNSCRAMBLE)),
     (3, Generator::unscramble_two),
-    (9, Generator::find_sync),
-    (1, Generator::xyz),
-    (3, Generator::read_xyz),
+    (9, |made| {
+        request(&[&[FIND_SYNC], &list(&syncs::words(&mut made.random))])
+    }),
+    (1, |made| {
+        request(&[&[XYZ], &[(); 3].map(|()| made.random.below(2))])
+    }),
+    (3, |made| {
+        vec![READ_XYZ, codes::xyz(&mut made.random).into()]
+    }),
     (4, Generator::line_words),
     (8, Generator::read_line),
     (8, Generator::build_packet),
@@ -63,7 +71,7 @@ const MAKERS: [(u32, Maker); 27] = [
     (62, Generator::feed),
     (24, Generator::feed_with_a_code),
     (10, Generator::end),
-    (22, Generator::module),
+    (22, |made| modules::module(&mut made.random)),
     (10, Generator::desk),
     (14, Generator::take),
     (4, Generator::outcome_line),
@@ -115,38 +123,10 @@ impl Generator {
         self.turn
     }
 
-    fn raster_row(&mut self) -> Request {
-        vec![RASTER_ROW, rasters::code(&mut self.random)]
-    }
-
-    fn name_raster(&mut self) -> Request {
-        request(&[&[NAME_RASTER], &rasters::naming(&mut self.random)])
-    }
-
-    fn v_and_f(&mut self) -> Request {
-        vec![
-            V_AND_F,
-            rasters::code(&mut self.random),
-            rasters::line(&mut self.random),
-        ]
-    }
-
     fn crc_after_words(&mut self) -> Request {
         let register = lists::register(&mut self.random);
         let words = lists::words(&mut self.random);
         request(&[&[CRC_AFTER_WORDS, register], &list(&words)])
-    }
-
-    fn crc_words(&mut self) -> Request {
-        vec![CRC_WORDS, lists::register(&mut self.random)]
-    }
-
-    fn scramble(&mut self) -> Request {
-        self.scrambler(SCRAMBLE)
-    }
-
-    fn unscramble(&mut self) -> Request {
-        self.scrambler(UNSCRAMBLE)
     }
 
     fn scrambler(&mut self, function: u32) -> Request {
@@ -156,23 +136,15 @@ impl Generator {
         request(&[&[function, history.into()], &list(&words), &list(&output)])
     }
 
-    fn find_sync(&mut self) -> Request {
-        request(&[&[FIND_SYNC], &list(&syncs::words(&mut self.random))])
-    }
-
     /// Two words, which are often taken together.
     fn unscramble_two(&mut self) -> Request {
         let [history, first, second] = [(); 3].map(|()| lists::any_word(&mut self.random).into());
         vec![UNSCRAMBLE, history, 2, first, second, 2, 0, 0]
     }
 
-    fn xyz(&mut self) -> Request {
-        let fvh = [(); 3].map(|()| self.random.below(2));
-        request(&[&[XYZ], &fvh])
-    }
-
-    fn read_xyz(&mut self) -> Request {
-        vec![READ_XYZ, codes::xyz(&mut self.random).into()]
+    fn v_and_f(&mut self) -> Request {
+        let code = rasters::code(&mut self.random);
+        vec![V_AND_F, code, rasters::line(&mut self.random)]
     }
 
     fn line_words(&mut self) -> Request {

@@ -92,36 +92,6 @@ fn tag_bytes_are_21_to_7e() {
     }
 }
 
-/// "options not two bytes", whatever raster and wipe are.
-#[test]
-fn options_have_two_bytes() {
-    for count in [0, 1, 3, 4, 0x102, 0x0200_0000, HUGE] {
-        for options in [[1, 0], [12, 0], [1, 2], [12, 2]] {
-            let mut job = job(&[]);
-            job.options = options.to_vec();
-            assert_refused_early(&job.bytes_with([3, count, 0]), 9);
-            job.options.resize(count.min(8) as usize, 0);
-            assert_refused_early(&job.bytes_with([3, count, 0]), 9);
-        }
-    }
-}
-
-/// "wipe not 0 or 1" is 9, "raster not 0..11" is 4, and 9 comes before 4.
-#[test]
-fn in_the_options_9_comes_before_4() {
-    for raster in 0..=0xff {
-        for wipe in [0, 1, 2, 3, 0x80, 0xff] {
-            let mut job = job(&[]);
-            job.options = vec![raster, wipe];
-            match (raster, wipe) {
-                (_, 2..) => assert_refused_early(&job.bytes(), 9),
-                (12.., _) => assert_refused_early(&job.bytes(), 4),
-                _ => assert!(printed(&*job.bytes()).ends_with("NO SIGNAL\n")),
-            }
-        }
-    }
-}
-
 /// "word 3FF passes, 400 gives 3", at every place, also beyond the words that are read at once.
 #[test]
 fn words_above_3ff_are_3() {
@@ -135,35 +105,6 @@ fn words_above_3ff_are_3() {
             }
         }
     }
-}
-
-/// "It reports the fault met first in reading": a bad word was met before the input's end, but half a word is none.
-#[test]
-fn a_bad_word_before_a_cut_is_3_and_after_it_9() {
-    for count in [1, 2, PART, PART + 1] {
-        let mut words = vec![0x155; count];
-        words.push(0x400);
-        words.push(0x155);
-        let bytes = job(&words).bytes();
-        let after_bad = bytes.len() - 2;
-        assert_refused(&bytes[..after_bad + 1], 3);
-        assert_refused(&bytes[..after_bad], 3);
-        assert_refused(&bytes[..after_bad - 1], 9);
-        assert_refused(&bytes[..after_bad - 2], 9);
-        assert_refused(&bytes[..after_bad - 3], 9);
-    }
-}
-
-/// The first fault in the order of the file, not of the numbers.
-#[test]
-fn of_two_sections_the_first_decides() {
-    let mut bad_raster = job(&[0x400]);
-    bad_raster.options = vec![12, 0];
-    assert_refused_early(&bad_raster.bytes(), 4);
-    let bad_tag = job(&[]).bytes_with([0, 2, 0]);
-    assert_refused(&[job(&[0x400]).bytes(), bad_tag].concat(), 3);
-    let cut = bad_raster.bytes();
-    assert_refused(&cut[..cut.len() - 1], 4);
 }
 
 /// 9, or at a job's end nothing more.

@@ -98,9 +98,16 @@ impl Tally {
         *self.0.entry(sign).or_default() += 1;
     }
 
-    pub fn assert_come(&self, signs: impl IntoIterator<Item = impl Display>, times: u32) {
+    /// Each sign, which starts with what all of them start with, comes so many times.
+    pub fn assert_come(
+        &self,
+        start: &str,
+        signs: impl IntoIterator<Item = impl Display>,
+        times: u32,
+    ) {
         for sign in signs {
-            let come = self.0.get(&sign.to_string()).copied().unwrap_or(0);
+            let sign = format!("{start}{sign}");
+            let come = self.0.get(&sign).copied().unwrap_or(0);
             assert!(come >= times, "{sign} comes {come} times: {self:?}");
         }
     }

@@ -126,14 +126,7 @@ fn job_of(random: &mut Random, raster: u32, words: &[u16]) -> (Vec<u8>, usize) {
     let start = bytes.len() - 2 * job.words.len();
     // From the options' end, amid the count, after it, or after a word's low byte.
     let amid = random.place(4);
-    let from = random.pick(&[
-        start - 4,
-        start - 4 + amid,
-        start,
-        start,
-        start + 1,
-        start + 1,
-    ]);
+    let from = start + random.pick(&[0, amid, 4, 4, 5, 5]) - 4;
     let place = if before.is_empty() {
         from
     } else {

@@ -49,14 +49,7 @@ pub fn register(random: &mut Random) -> u32 {
     match random.below(6) {
         0 => 0,
         1 => random.pick(&[0x3fffe, 0x3ffff, 0x20000, 0x23000]),
-        2 => random.pick(&[
-            0x40000,
-            0x40001,
-            0x7ffff,
-            0x8000_0000,
-            0xffff_fffe,
-            0xffff_ffff,
-        ]),
+        2 => random.pick(&[0x40000, 0x40001, 0x7ffff, 1 << 31, u32::MAX - 1, u32::MAX]),
         3 => random.number(),
         _ => random.below(0x40000),
     }

@@ -7,19 +7,15 @@ use crate::random::Random;
 /// DID and SDID.
 pub type Pair = (u8, u8);
 
-const PAIRS: [Pair; 5] = [
-    (0x41, 0x01),
-    (0x61, 0x01),
-    (0xff, 0x00),
-    (0x80, 0xff),
-    (0x00, 0x41),
-];
+const DIDS: [u8; 5] = [0x41, 0x61, 0xff, 0x80, 0x00];
+const SDIDS: [u8; 5] = [0x01, 0x01, 0x00, 0xff, 0x41];
 
 pub fn pair(random: &mut Random) -> Pair {
     if random.one_in(4) {
         (byte(random), byte(random))
     } else {
-        random.pick(&PAIRS)
+        let known = random.place(DIDS.len());
+        (DIDS[known], SDIDS[known])
     }
 }
 

@@ -3,17 +3,7 @@
 use crate::random::Random;
 use crate::raster::{raster_of, TABLE};
 
-const NO_CODES: [u32; 9] = [
-    12,
-    12,
-    13,
-    16,
-    255,
-    0x100,
-    0x1_0001,
-    0x1000_0007,
-    0xffff_ffff,
-];
+const NO_CODES: [u32; 9] = [12, 12, 13, 16, 255, 0x100, 0x10001, 0x10000007, u32::MAX];
 /// The first and last lines, and where V or F changes.
 const LINE_EDGES: [u32; 32] = [
     0, 1, 2, 20, 21, 25, 26, 41, 42, 63, 64, 127, 128, 560, 561, 563, 564, 583, 584, 745, 746, 749,
@@ -24,11 +14,11 @@ const LONG_LINES: [u32; 8] = [
     2048,
     2049,
     0xffff,
-    0x1_0000,
-    0x1_0001,
-    0x1000_001a,
-    0x8000_0001,
-    0xffff_ffff,
+    0x10000,
+    0x10001,
+    0x1000001a,
+    0x80000001,
+    u32::MAX,
 ];
 
 pub fn bad_code(random: &mut Random) -> u32 {

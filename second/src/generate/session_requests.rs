@@ -2,7 +2,7 @@
 
 use super::rows::{head, row, Row};
 use super::sessions::{self, alter, begun, in_a_row, out_of_range, run};
-use super::{code_feeds, codes, lists, modules, pieces, rasters, regions, request};
+use super::{code_feeds, codes, lists, pieces, rasters, regions, request};
 use super::{signals, streams};
 use super::{Generator, Request};
 use crate::functions::*;
@@ -40,10 +40,6 @@ impl Generator {
     pub(super) fn feed_with_a_code(&mut self) -> Request {
         let turn = self.next_turn();
         code_feeds::feed(&mut self.random, turn).unspoilt(&mut self.random)
-    }
-
-    pub(super) fn module(&mut self) -> Request {
-        modules::module(&mut self.random)
     }
 }
 

@@ -47,9 +47,18 @@ pub fn rows() -> [Row; 12] {
     ENTRIES.map(row)
 }
 
+/// "Code 0 stands for 7, our local cameras, and is printed as 7."
+fn printed(code: u32) -> u32 {
+    if code == 0 {
+        7
+    } else {
+        code
+    }
+}
+
 fn row((code, line, v, [eav, sav], line_words): Entry) -> Row {
-    let printed = if code == 0 { 7 } else { code };
-    let [_, _, active, _, _, hanc] = ROWS[printed as usize - 1].map(|number| number as usize);
+    let raster = ROWS[printed(code) as usize - 1].map(|number| number as usize);
+    let [_, _, active, _, _, hanc] = raster;
     let words = [0, 1].map(|channel| {
         let eav = [0x3ff, 0x000, 0x000, eav];
         let crc = crc(CARRY[channel], &[&eav[..], &line_words].concat());
@@ -75,6 +84,11 @@ fn crc(register: u32, covered: &[u16]) -> [u16; 2] {
 }
 
 impl Row {
+    /// The raster as it is printed.
+    pub fn raster(&self) -> u32 {
+        printed(self.code)
+    }
+
     /// The CRC words that the carry asks for are made anew.
     pub fn with_crc(mut self) -> Self {
         for (register, words) in CARRY.into_iter().zip(&mut self.words) {

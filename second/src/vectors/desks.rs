@@ -167,44 +167,35 @@ fn taken() -> Vec<Vector> {
         history: 0x400,
         ..of(1)
     };
-    let mut vectors = Vec::new();
+    let nothing: &[&[u32]] = &[&[0, 1], &NOTHING];
+    let wipe_9: &[&[u32]] = &[&[0, 1], &BAD_9];
+    let refused = |before: &[u32], session: Numbers, buffers, refusal| {
+        let answer: &[&[u32]] = &[&[refusal, 0], &NOTHING];
+        take(before, session, &[0], buffers, (answer, session.list()))
+    };
+    let mut vectors = ends();
     // Before the count of words, amid it, before a word's low byte, and before its high byte.
     for before in [0, 2, 4, 5].map(job_up_to) {
-        for (session, buffers, refusal) in [
-            (closed, ENOUGH, 7),
-            (counted, SHORT_Y, 7),
-            (bad, ENOUGH, 7),
-            (bad, SHORT_C, 7),
-            (of(1), SHORT_Y, 1),
-            (of(1), SHORT_C, 1),
-        ] {
-            let refused: &[&[u32]] = &[&[refusal, 0], &NOTHING];
-            let answer = (refused, session.list());
-            vectors.push(take(&before, session, &[0], buffers, answer));
-            vectors.push(take(&before, session, &[], buffers, answer));
-        }
+        vectors.extend([
+            refused(&before, closed, ENOUGH, 7),
+            refused(&before, counted, SHORT_Y, 7),
+            refused(&before, bad, SHORT_C, 7),
+            refused(&before, of(1), SHORT_Y, 1),
+            refused(&before, of(1), SHORT_C, 1),
+        ]);
     }
+    // The first byte of a file, the wipe byte, a bad one, and a byte after a refused one.
     for session in [closed, counted, bad, of(7)] {
-        vectors.extend(taken_outside_of_words(session));
+        let as_it_was = (nothing, session.list());
+        vectors.extend([
+            refused(&[], session, SHORT_Y, 1),
+            take(&[], session, &[3], ENOUGH, as_it_was),
+            take(&UP_TO_WIPE, session, &[1], ENOUGH, (nothing, of(1).list())),
+            take(&UP_TO_WIPE, session, &[2], ENOUGH, (wipe_9, FRESH)),
+            take(&[0; 4], session, &[3], ENOUGH, as_it_was),
+        ]);
     }
-    vectors.extend(ends());
     vectors
-}
-
-/// The first byte of a file, the wipe byte, a bad one, and a byte after a refused one.
-fn taken_outside_of_words(session: Numbers) -> [Vector; 5] {
-    let nothing: &[&[u32]] = &[&[0, 1], &NOTHING];
-    let refused: &[&[u32]] = &[&[1, 0], &NOTHING];
-    let list = session.list();
-    let begun = (nothing, of(1).list());
-    let bad: (&[&[u32]], _) = (&[&[0, 1], &BAD_9], FRESH);
-    [
-        take(&[], session, &[3], ENOUGH, (nothing, list)),
-        take(&[], session, &[3], SHORT_Y, (refused, list)),
-        take(&UP_TO_WIPE, session, &[1], ENOUGH, begun),
-        take(&UP_TO_WIPE, session, &[2], ENOUGH, bad),
-        take(&[0, 0, 0, 0], session, &[3], ENOUGH, (nothing, list)),
-    ]
 }
 
 /// The last bytes of a job without a sync: the count of no words, one word, its high byte, and a word above 3FF.

@@ -147,9 +147,8 @@ fn in_modules_codes_rows_and_zeros_end_at_every_place() {
 }
 
 /// About runs of 256 and 1,024 words: so many, one or two more, and one or two less.
-fn about_runs(what: &str, lengths: &[usize]) -> Vec<String> {
-    let numbers = lengths.iter().flat_map(|length| length - 2..=length + 2);
-    numbers.map(|number| format!("{what} {number}")).collect()
+fn about_runs() -> impl Iterator<Item = usize> {
+    (FEW - 2..=FEW + 2).chain(RUN - 2..=RUN + 2)
 }
 
 #[test]
@@ -157,16 +156,10 @@ fn at_desks_syncs_end_at_every_place_and_sections_about_a_run() {
     let Seen { places, ends } = of_desks();
     assert_at_every_place(&places, &SYNCS, 2);
     assert_at_every_place(&places, &["opens"], 1);
-    ends.assert_come(about_runs("section", &[FEW, RUN]), 1);
-    ends.assert_come(about_runs("lent", &[FEW, RUN]), 1);
-    ends.assert_come(&about_runs("bad", &[RUN])[..4], 1);
-    ends.assert_come(
-        ["cut 0", "cut 0 and a half", "cut 1", "cut 1 and a half"],
-        1,
-    );
-    for what in ["section", "lent", "bad"] {
-        ends.assert_come((0..=2).map(|number| format!("{what} {number}")), 1);
-    }
+    ends.assert_come("section ", (0..=2).chain(about_runs()), 1);
+    ends.assert_come("lent ", (0..=2).chain(about_runs()), 1);
+    ends.assert_come("bad ", (0..=2).chain(RUN - 2..=RUN + 1), 1);
+    ends.assert_come("cut ", ["0", "0 and a half", "1", "1 and a half"], 1);
 }
 
 #[test]
@@ -180,15 +173,15 @@ fn in_fixed_files_all_ends_at_every_place() {
         assert_at_every_place(&seen.places, signs, 1);
     }
     assert_zeros(&seen.places, 20);
-    seen.ends.assert_come(about_runs("section", &[FEW, RUN]), 1);
-    seen.ends.assert_come(&about_runs("bad", &[RUN])[..4], 1);
-    for number in [RUN - 2, RUN - 1, RUN, RUN + 1] {
-        let cuts = ["", " and a half"].map(|half| format!("cut {number}{half}"));
-        seen.ends.assert_come(cuts, 1);
+    seen.ends.assert_come("section ", about_runs(), 1);
+    for number in RUN - 2..=RUN + 1 {
+        seen.ends.assert_come("bad ", [number], 1);
+        let cut = format!("cut {number}");
+        seen.ends.assert_come(&cut, ["", " and a half"], 1);
     }
     for left in [1, 2] {
-        let reads = [false, true].map(|half| format!("read to {left} left, amid a word {half}"));
-        seen.ends.assert_come(reads, 1);
+        let read = format!("read to {left} left, amid a word ");
+        seen.ends.assert_come(&read, [false, true], 1);
     }
 }
 
@@ -201,6 +194,5 @@ fn in_files_of_seeds_syncs_and_rows_end_at_every_place() {
     }
     assert_at_every_place(&seen.places, &SYNCS, 10);
     assert_at_every_place(&seen.places, &EVENTS[..3], 1);
-    seen.ends
-        .assert_come((0..=3).map(|number| format!("section {number}")), 1);
+    seen.ends.assert_come("section ", 0..=3, 1);
 }

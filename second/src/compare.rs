@@ -9,13 +9,13 @@ mod parts;
 mod requests;
 mod shrinking;
 
-use crate::generate::{self, captures, cuts, files::file, fixed, frames::frames};
+use crate::generate::{self, captures, cuts, fixed};
 use crate::{decimal, usage, vectors, Failure};
 use command::Command;
 use std::io::Write;
 
-/// Files with what makes each again.
-type Files = Box<dyn Iterator<Item = (String, Vec<u8>)>>;
+/// What `second` makes files by.
+type Names = Box<dyn Iterator<Item = String>>;
 
 /// Writes how many were alike. What they differ on is a failure, whose message has it.
 pub fn compare(words: &[&str], output: &mut impl Write) -> Result<(), Failure> {
@@ -29,8 +29,8 @@ pub fn compare(words: &[&str], output: &mut impl Write) -> Result<(), Failure> {
             requests::compare("vectors", vectors::requests(), &command_of(command)?)?
         }
         _ => {
-            let (files, command) = files_of(words)?;
-            files::compare(files, &command_of(command)?)?
+            let (names, command) = files_of(words)?;
+            files::compare(names, &command_of(command)?)?
         }
     };
     if alike == 0 {
@@ -46,42 +46,31 @@ fn command_of<'a>(words: &'a [&'a str]) -> Result<Command<'a>, Failure> {
     Ok(Command { program, arguments })
 }
 
-/// The files that the words ask for, and the words of the command.
-fn files_of<'a>(words: &'a [&'a str]) -> Result<(Files, &'a [&'a str]), Failure> {
+/// What makes each of the files that the words ask for, and the words of the command.
+fn files_of<'a>(words: &'a [&'a str]) -> Result<(Names, &'a [&'a str]), Failure> {
     Ok(match words {
         ["files", first, last, command @ ..] => {
             let seeds = decimal(first)?..=decimal(last)?;
-            let files = seeds.map(|seed| (format!("file {seed}"), file(seed).bytes));
-            (Box::new(files), command)
+            (Box::new(seeds.map(|seed| format!("file {seed}"))), command)
         }
         ["captures", command @ ..] => {
-            let captured = |name| {
-                let file = captures::capture(name).expect("it has a name");
-                (format!("capture {name}"), file)
-            };
+            let names = captures::names().into_iter();
             (
-                Box::new(captures::names().into_iter().map(captured)),
+                Box::new(names.map(|name| format!("capture {name}"))),
                 command,
             )
         }
         ["frames", command @ ..] => {
-            let frame = |code| {
-                let file = frames(code, 1, 1).expect("the raster is of the table");
-                (format!("frames {code} 1 1"), file)
-            };
-            (Box::new((0..=11).map(frame)), command)
+            let names = (0..=11).map(|code| format!("frames {code} 1 1"));
+            (Box::new(names), command)
         }
         ["cuts", command @ ..] => {
-            let file = cuts::file();
-            let cut = move |place| (format!("cut {place}"), file[..place].to_vec());
-            (Box::new((0..=cuts::file().len()).map(cut)), command)
+            let names = (0..=cuts::file().len()).map(|place| format!("cut {place}"));
+            (Box::new(names), command)
         }
         ["fixed", command @ ..] => {
-            let made = |number| {
-                let file = fixed::file(number).expect("its number is below the count");
-                (format!("fixed {number}"), file)
-            };
-            (Box::new((0..fixed::count()).map(made)), command)
+            let names = (0..fixed::count()).map(|number| format!("fixed {number}"));
+            (Box::new(names), command)
         }
         _ => return Err(usage()),
     })

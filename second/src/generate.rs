@@ -33,6 +33,7 @@ mod syncs;
 
 use crate::functions::*;
 use crate::random::Random;
+use crate::runs::list;
 use crate::timing;
 
 type Request = Vec<u32>;
@@ -165,11 +166,4 @@ impl Generator {
 
 fn request(parts: &[&[u32]]) -> Request {
     parts.concat()
-}
-
-fn list(words: &[u16]) -> Vec<u32> {
-    let elements = words.iter().map(|&word| u32::from(word));
-    std::iter::once(words.len() as u32)
-        .chain(elements)
-        .collect()
 }

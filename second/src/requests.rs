@@ -66,10 +66,3 @@ fn refusable<const COUNT: usize>(result: Result<[u32; COUNT], Refusal>) -> Vec<u
         Err(refusal) => [&[refusal.number()], &[0; COUNT][..]].concat(),
     }
 }
-
-fn list(elements: &[u16]) -> Vec<u32> {
-    let count = elements.len() as u32;
-    std::iter::once(count)
-        .chain(elements.iter().map(|&element| element.into()))
-        .collect()
-}

@@ -36,39 +36,3 @@ pub fn extract(
     fill(output, &copied);
     Ok(copied.len())
 }
-
-#[cfg(test)]
-mod tests {
-    use super::*;
-    use crate::words::lay;
-
-    const PACKET: [u16; 7] = [0x000, 0x3ff, 0x3ff, 0x101, 0x200, 0x200, 0x101];
-    const WANTED: (u8, u8) = (0x01, 0x00);
-
-    /// A channel of raster 1 with the packet at each place, told apart by its DC's high bits.
-    fn channel(packets: &[(usize, u16)]) -> Vec<u16> {
-        let mut words = vec![0x040; 1650];
-        for &(place, dc) in packets {
-            lay(&mut words, place, &PACKET);
-            words[place + 5] = dc;
-        }
-        words
-    }
-
-    fn found(line: u32, y: &[u16], c: &[u16]) -> Option<u16> {
-        let part = find(1, line, WANTED, [y, c]).expect("the row can be read");
-        part.get(5).copied()
-    }
-
-    /// "Y before C"; "blanking before active words"
-    #[test]
-    fn the_first_is_found() {
-        let blanking = channel(&[(400, 0x000), (300, 0x100), (310, 0x200)]);
-        let active = channel(&[(400, 0x300)]);
-        let none = channel(&[]);
-        assert_eq!(found(1, &blanking, &active), Some(0x100));
-        assert_eq!(found(1, &active, &blanking), Some(0x300));
-        assert_eq!(found(1, &none, &blanking), Some(0x100));
-        assert_eq!(found(1, &none, &none), None);
-    }
-}

@@ -65,7 +65,7 @@ fn the_request_that_differs_gets_small() {
 /// The last vectors are modules, of which each has hundreds of words.
 #[test]
 fn a_module_that_differs_gets_small() {
-    let script = r#""$0" answer | sed '/^0 1 0 0 1 [0-9a-f]* [0-9a-f]* 2 /s/^0/1/'"#;
+    let script = r#""$0" answer | sed '/^0 1 0 0 1 [0-9a-f]* [0-9a-f]* 3 /s/^0/1/'"#;
     let text = said(&["vectors"], script);
     assert!(text.contains("of `second vectors`\n"), "{text}");
     let request = after(&text, "request");

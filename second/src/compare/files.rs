@@ -5,7 +5,7 @@ use super::command::Command;
 use super::parts::Parts;
 use super::shrinking::Shrinking;
 use crate::bench::printed;
-use crate::Failure;
+use crate::{made_file, Failure};
 use std::env::temp_dir;
 use std::fs;
 use std::io::{Read, Write};
@@ -23,17 +23,21 @@ const AT_ONCE: usize = 2;
 
 /// How many files give the same, which are all of them. A file has the name that `second` makes it by.
 pub fn compare(
-    mut files: impl Iterator<Item = (String, Vec<u8>)>,
+    mut names: impl Iterator<Item = String>,
     command: &Command,
 ) -> Result<usize, Failure> {
     let mut alike = 0;
     loop {
-        let some: Vec<_> = files.by_ref().take(AT_ONCE).collect();
+        let some: Vec<String> = names.by_ref().take(AT_ONCE).collect();
         if some.is_empty() {
             return Ok(alike);
         }
-        let outputs = outputs_of_each(&some, command);
-        for ((name, bytes), outputs) in some.into_iter().zip(outputs) {
+        let made = some
+            .iter()
+            .map(|name| made_file(&name.split(' ').collect::<Vec<_>>()));
+        let files = made.collect::<Result<Vec<_>, _>>()?;
+        let outputs = outputs_of_each(&files, command);
+        for ((name, bytes), outputs) in some.into_iter().zip(files).zip(outputs) {
             let outputs = outputs?;
             if outputs.differ() {
                 return Err(Failure::Message(report(&name, bytes, outputs, command)));
@@ -45,12 +49,11 @@ pub fn compare(
 
 /// What is printed for some files, all at once.
 fn outputs_of_each<'a>(
-    files: &'a [(String, Vec<u8>)],
+    files: &'a [Vec<u8>],
     command: &'a Command,
 ) -> Vec<Result<Outputs, Failure>> {
     thread::scope(|scope| {
-        let start =
-            |(_, bytes): &'a (String, Vec<u8>)| scope.spawn(move || Outputs::of(bytes, command));
+        let start = |bytes: &'a Vec<u8>| scope.spawn(move || Outputs::of(bytes, command));
         let runs: Vec<_> = files.iter().map(start).collect();
         let ended = |run: ScopedJoinHandle<'_, _>| run.join().expect("a run does not panic");
         runs.into_iter().map(ended).collect()

@@ -11,14 +11,7 @@ const LINE_EDGES: [u32; 32] = [
 ];
 /// Among them lines whose low eleven or sixteen bits are a line of every raster.
 const LONG_LINES: [u32; 8] = [
-    2048,
-    2049,
-    0xffff,
-    0x10000,
-    0x10001,
-    0x1000001a,
-    0x80000001,
-    u32::MAX,
+    2048, 2049, 0xffff, 0x10000, 0x10001, 0x1000001a, 0x80000001, 0xffffffff,
 ];
 
 pub fn bad_code(random: &mut Random) -> u32 {

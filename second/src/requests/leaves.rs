@@ -1,9 +1,10 @@
 //! The functions of rasters, CRC, cable bits, timing codes and line numbers.
 
-use super::{list, refusable, Answer};
+use super::{refusable, Answer};
 use crate::arguments::Arguments;
 use crate::raster::Kind;
 use crate::refusal::Refusal;
+use crate::runs::list;
 use crate::{cable, crc, raster, timing};
 
 pub fn raster_row(arguments: &mut Arguments) -> Answer {

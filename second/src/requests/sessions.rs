@@ -1,9 +1,9 @@
 //! The functions of a module session.
 
-use super::{list, refusable, Answer};
+use super::{refusable, Answer};
 use crate::arguments::Arguments;
 use crate::refusal::Refusal;
-use crate::runs::runs;
+use crate::runs::{list, runs};
 use crate::session::{Numbers, Report, Session};
 
 /// A call on a session: what it answers, and the session afterwards, which a refused call leaves "as it is".

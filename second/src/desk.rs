@@ -44,11 +44,9 @@ impl Desk {
         buffers: &mut Buffers,
     ) -> Result<(usize, Outcome), Refusal> {
         let short = |buffer: &&mut [u16]| buffer.len() < longest_row();
+        let is_closed = self.reader.is_in_words() && self.running.is_none();
         refuse(&[
-            (
-                Refusal::Session,
-                self.reader.is_in_words() && self.running.is_none(),
-            ),
+            (Refusal::Session, is_closed),
             (Refusal::Short, buffers.iter().any(short)),
         ])?;
         for (place, &byte) in bytes.iter().enumerate() {
@@ -77,9 +75,8 @@ impl Desk {
     /// "Its session is begun anew when the options are read".
     fn begin(&mut self, raster: u8) {
         let mut session = Session::default();
-        session
-            .begin(raster.into())
-            .expect("it is fresh, and the raster was read");
+        let begun = session.begin(raster.into());
+        begun.expect("it is fresh, and the raster was read");
         self.running = Some(session);
     }
 
@@ -123,9 +120,6 @@ impl Desk {
 
 /// "1 where a buffer has fewer than 4,125 words, whatever the raster": T of the longest row.
 pub fn longest_row() -> usize {
-    TABLE
-        .map(|raster| raster.total)
-        .into_iter()
-        .max()
-        .unwrap_or(0) as usize
+    let totals = TABLE.map(|raster| raster.total as usize);
+    totals.into_iter().max().unwrap_or(0)
 }

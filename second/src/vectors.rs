@@ -223,27 +223,20 @@ fn unnamed_rasters() -> Vec<Vector> {
 /// The timing figures' first and last picture lines (002:67 and 002:69 for 750 rows, 002:68 and 002:70 for two fields,
 /// 002:71-73 for 1125 progressive), and F's change at 564, which no data sheet prints, each with its neighbour.
 fn picture_lines() -> Vec<Vector> {
-    let progressive_750 = [(1, 1), (25, 1), (26, 0), (745, 0), (746, 1), (750, 1)];
-    let progressive_1125 = [(1, 1), (41, 1), (42, 0), (1121, 0), (1122, 1), (1125, 1)];
-    let first_field = [(1, 1), (20, 1), (21, 0), (560, 0), (561, 1), (563, 1)];
-    let second_field = [
-        (564, 1),
-        (583, 1),
-        (584, 0),
-        (1123, 0),
-        (1124, 1),
-        (1125, 1),
+    let fields = [
+        (1..=5, [1, 25, 26, 745, 746, 750], 0),
+        (9..=11, [1, 41, 42, 1121, 1122, 1125], 0),
+        (6..=8, [1, 20, 21, 560, 561, 563], 0),
+        (6..=8, [564, 583, 584, 1123, 1124, 1125], 1),
     ];
-    let two_fields = 6..=8;
-    (1..=5)
-        .map(|code| (code, progressive_750, 0))
-        .chain((9..=11).map(|code| (code, progressive_1125, 0)))
-        .chain(two_fields.clone().map(|code| (code, first_field, 0)))
-        .chain(two_fields.map(|code| (code, second_field, 1)))
-        .flat_map(|(code, lines, f)| {
-            lines.map(|(line, v)| vector(&[V_AND_F, code, line], &[0, v, f]))
-        })
-        .collect()
+    let mut vectors = Vec::new();
+    for (codes, lines, f) in fields {
+        for code in codes {
+            let lines = lines.into_iter().zip([1, 1, 0, 0, 1, 1]);
+            vectors.extend(lines.map(|(line, v)| vector(&[V_AND_F, code, line], &[0, v, f])));
+        }
+    }
+    vectors
 }
 
 #[cfg(test)]

@@ -17,11 +17,8 @@ pub struct Shrinking<Find> {
     tried: HashSet<u64>,
 }
 
-/// Something smaller, and the place in the part where it is.
-struct Candidate {
-    place: usize,
-    parts: Parts,
-}
+/// The place in the part where it is smaller, and all parts.
+type Candidate = (usize, Parts);
 
 impl<Error, Find> Shrinking<Find>
 where
@@ -120,8 +117,7 @@ where
             }
             place = match (self.find)(&puts)? {
                 Some(found) => {
-                    let Candidate { place, parts } = candidates.swap_remove(found);
-                    self.parts = parts;
+                    (place, self.parts) = candidates.swap_remove(found);
                     place
                 }
                 None => next,
@@ -145,7 +141,7 @@ where
                 let put = parts.put();
                 if self.is_new(&put) && parts.may_be_put() {
                     bytes += put.len();
-                    candidates.push(Candidate { place, parts });
+                    candidates.push((place, parts));
                     puts.push(put);
                 }
             }
@@ -242,11 +238,7 @@ mod tests {
         Job::new(tag, raster, false, words.to_vec()).bytes()
     }
 
-    /// The smallest file of which a job has these words in this order, and how many were put.
-    fn smallest_with(bytes: &[u8], wanted: &[u32]) -> (Parts, usize) {
-        smallest(Parts::of_file(bytes), |put| has_job_with(put, wanted))
-    }
-
+    /// Whether a job of the file has these words in this order.
     fn has_job_with(bytes: &[u8], wanted: &[u32]) -> bool {
         let file = Parts::of_file(bytes);
         (0..file.jobs()).any(|job| has(&file, 3 * job + 2, wanted))
@@ -255,12 +247,9 @@ mod tests {
     #[test]
     fn jobs_and_words_anywhere_are_dropped() {
         let words: Vec<u16> = (0..1000).collect();
-        let jobs = [
-            job("B02", 0, &[1, 2, 3]),
-            job("B03", 4, &words),
-            job("B04", 7, &words),
-        ];
-        let (file, tried) = smallest_with(&jobs.concat(), &[100, 900]);
+        let jobs = [job("B02", 0, &[1, 2, 3]), job("B03", 4, &words)];
+        let file = [jobs.concat(), job("B04", 7, &words)].concat();
+        let (file, tried) = smallest(Parts::of_file(&file), |put| has_job_with(put, &[100, 900]));
         // Three counts, the tag `A`, the options and two words are left.
         assert_eq!((file.jobs(), file.put().len()), (1, 12 + 1 + 2 + 4));
         assert!(tried < 200, "{tried}");
@@ -307,11 +296,7 @@ mod tests {
             left -= 1;
             last = puts[0].len();
             let found = puts.iter().position(|put| put.len() > 100);
-            if left > 0 {
-                Ok(found)
-            } else {
-                Err("enough")
-            }
+            (left > 0).then_some(found).ok_or("enough")
         };
         let ended = Shrinking::of(Parts::of_file(&file), find).shrink();
         assert_eq!(ended, Err("enough"));

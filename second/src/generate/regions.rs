@@ -28,12 +28,10 @@ pub fn lay_pieces(random: &mut Random, words: &mut [u16], region: &Range<usize>,
     }
 }
 
-fn untidy(
-    random: &mut Random,
-    region: &Range<usize>,
-    pair: Pair,
-    free: usize,
-) -> (usize, Vec<u16>) {
+/// Where words are laid, and the words.
+type Laid = (usize, Vec<u16>);
+
+fn untidy(random: &mut Random, region: &Range<usize>, pair: Pair, free: usize) -> Laid {
     if random.one_in(5) {
         let place = before(region.end, random.between(8, 270));
         (place, bait(random, pair))

@@ -84,13 +84,8 @@ pub fn both(words: &[Vec<u16>; 2]) -> Request {
 }
 
 fn build_request(parts: &Parts) -> Request {
-    let Parts {
-        head,
-        active,
-        blanking,
-        buffers,
-    } = parts;
+    let head = parts.head;
     let numbers = [BUILD_ROW, head.code, head.line];
-    let words = [active, blanking, buffers].map(both).concat();
-    request(&[&numbers, &head.carry_numbers(), &words])
+    let words = [&parts.active, &parts.blanking, &parts.buffers].map(both);
+    request(&[&numbers, &head.carry_numbers(), &words.concat()])
 }

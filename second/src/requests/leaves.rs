@@ -14,12 +14,9 @@ pub fn raster_row(arguments: &mut Arguments) -> Answer {
 }
 
 pub fn name_raster(arguments: &mut Arguments) -> Answer {
-    let (total, active, rows) = (
-        arguments.number()?,
-        arguments.number()?,
-        arguments.number()?,
-    );
-    let kind = match arguments.flag()? {
+    let (total, active) = (arguments.number()?, arguments.number()?);
+    let (rows, two_fields) = (arguments.number()?, arguments.flag()?);
+    let kind = match two_fields {
         true => Kind::TwoFields,
         false => Kind::Progressive,
     };

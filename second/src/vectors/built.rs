@@ -99,10 +99,8 @@ impl Row {
     }
 
     pub fn next_carry(&self) -> [u32; 3] {
-        let [y, c] = self
-            .words
-            .each_ref()
-            .map(|words| after_words(0, &words[self.sav + 4..]));
+        let channels = self.words.each_ref();
+        let [y, c] = channels.map(|words| after_words(0, &words[self.sav + 4..]));
         [1, y, c]
     }
 
@@ -127,17 +125,11 @@ impl Row {
     /// It is what is built of its active words, and of its blanking up to the packet's end.
     fn built(&self, carry: bool) -> Vector {
         let start = [BUILD_ROW, self.code, self.line];
-        let active = self
-            .words
-            .iter()
-            .flat_map(|words| runs(&words[self.sav + 4..]));
-        let blanking = PACKETS.into_iter().flat_map(runs);
-        let buffers = self
-            .words
-            .iter()
-            .flat_map(|words| runs(&vec![0xffff; words.len()]));
-        let parts = active.chain(blanking).chain(buffers).collect();
-        let request = [start.to_vec(), carry_numbers(carry).to_vec(), parts].concat();
+        let channels = self.words.each_ref();
+        let active = channels.map(|words| runs(&words[self.sav + 4..]));
+        let buffers = channels.map(|words| runs(&vec![0xffff; words.len()]));
+        let parts = [active, PACKETS.map(runs), buffers].concat().concat();
+        let request = [&start, &carry_numbers(carry)[..], &parts].concat();
         vector(&request, &made(self))
     }
 }

@@ -28,26 +28,19 @@ pub fn all() -> Vec<Vector> {
 }
 
 /// Asked of an output that holds words, which has others afterwards.
-fn asked(
-    did: u32,
-    sdid: u32,
-    user: &[u16],
-    held: &[u16],
-    answer: [u32; 2],
-    after: &[u16],
-) -> Vector {
-    let request = [&[BUILD_PACKET, did, sdid], &runs(user)[..], &runs(held)].concat();
+fn asked(pair: [u32; 2], user: &[u16], held: &[u16], answer: [u32; 2], after: &[u16]) -> Vector {
+    let request = [&[BUILD_PACKET], &pair[..], &runs(user), &runs(held)].concat();
     vector(&request, &[&answer, &runs(after)[..]].concat())
 }
 
 /// A packet built into an output of as many words, each FFFF before.
 fn built(did: u32, sdid: u32, user: &[u16], packet: &[u16]) -> Vector {
     let held = vec![0xffff; packet.len()];
-    asked(did, sdid, user, &held, [0, packet.len() as u32], packet)
+    asked([did, sdid], user, &held, [0, packet.len() as u32], packet)
 }
 
 fn not_built(refusal: u32, did: u32, user: &[u16], held: &[u16]) -> Vector {
-    asked(did, 0x01, user, held, [refusal, 0], held)
+    asked([did, 0x01], user, held, [refusal, 0], held)
 }
 
 fn ninth_built() -> Vec<Vector> {
@@ -55,7 +48,7 @@ fn ninth_built() -> Vec<Vector> {
     let longer = [&NINTH[..], &[0x155]].concat();
     vec![
         built(0x41, 0x01, user, &NINTH),
-        asked(0x41, 0x01, user, &[0x155; 12], [0, 11], &longer),
+        asked([0x41, 0x01], user, &[0x155; 12], [0, 11], &longer),
         not_built(1, 0x41, user, &[0x155; 10]),
     ]
 }

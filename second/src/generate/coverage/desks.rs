@@ -62,16 +62,9 @@ fn signs_of_take(asked: &Asked) -> Vec<String> {
 #[test]
 fn every_stage_is_lent_bytes_with_every_outcome() {
     let tally = Tally::of(asked(&[TAKE]).flat_map(signs_of_take));
-    for stage in [
-        "TagCount",
-        "Tag",
-        "OptionCount",
-        "Raster",
-        "Wipe",
-        "WordCount",
-        "Low",
-        "High",
-    ] {
+    let before_words = ["TagCount", "Tag", "OptionCount", "Raster", "Wipe"];
+    let in_words = ["WordCount", "Low", "High"];
+    for stage in before_words.into_iter().chain(in_words) {
         tally.assert_come(&format!("{stage}, refusal "), [0, 1], 2);
         tally.assert_come(&format!("{stage}, outcome "), 0..=2, 2);
     }
@@ -81,7 +74,6 @@ fn every_stage_is_lent_bytes_with_every_outcome() {
         let counts = ["TagCount", "OptionCount", "WordCount"];
         tally.assert_come("", counts.map(|stage| format!("{stage}{sign}")), 2);
     }
-    let in_words = ["WordCount", "Low", "High"];
     tally.assert_come("", in_words.map(|stage| format!("{stage}, refusal 7")), 10);
     tally.assert_come("refused with ", [3, 4, 9], 5);
 }

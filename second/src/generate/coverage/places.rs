@@ -131,17 +131,15 @@ fn in_modules_codes_rows_and_zeros_end_at_every_place() {
     assert_zeros(&places, 1);
     assert_ends(&places, 2);
     // Of feeds of each number of words from one to five, and of more, odd and even.
-    for words in [1, 2, 3, 4, 5, 8, 9] {
-        for sign in [
-            "in a sync's zeros",
-            "in an XYZ pair",
-            "with a sync",
-            "with an EAV",
-        ] {
-            assert!(
-                places.at(&format!("end {sign}"), words) >= 1,
-                "{sign}, {words}"
-            );
+    for sign in [
+        "in a sync's zeros",
+        "in an XYZ pair",
+        "with a sync",
+        "with an EAV",
+    ] {
+        for words in [1, 2, 3, 4, 5, 8, 9] {
+            let come = places.at(&format!("end {sign}"), words);
+            assert!(come >= 1, "{sign}, {words}");
         }
     }
 }

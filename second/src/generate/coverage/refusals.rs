@@ -140,8 +140,7 @@ fn assert_all_come(
     for (place, &first) in refusals.iter().enumerate() {
         assert!(come.contains(&vec![first]), "{first}: {come:?}");
         for second in &refusals[place + 1..] {
-            let both =
-                |reasons: &Vec<u32>| [&first, second].iter().all(|one| reasons.contains(one));
+            let both = |reasons: &Vec<u32>| reasons.contains(&first) && reasons.contains(second);
             assert!(come.iter().any(both), "{first} and {second}: {come:?}");
         }
     }
@@ -161,10 +160,8 @@ fn every_refusal_and_every_two_come() {
 fn takes_are_refused_with_7_before_1() {
     let with_reasons = |asked: &'static Asked| {
         let mut given = asked.arguments(0);
-        let (lengths, bytes) = (
-            given.list().expect("lengths"),
-            given.bytes().expect("bytes"),
-        );
+        let lengths = given.list().expect("lengths");
+        let bytes = given.bytes().expect("bytes");
         let numbers = given.session().expect("a session");
         let (desk, _) = desk_after(&lengths, &bytes);
         let mut short = || given.runs().expect("runs").len() < 4125;

@@ -44,20 +44,15 @@ fn assert_at_every_place(places: impl Iterator<Item = usize>, times: u32) {
 fn a_000_comes_at_every_place_after_a_stretch_without_one() {
     let rows = asked(&[EXTRACT]).filter_map(|asked| read_row(asked, 3));
     let stretches = rows.flat_map(|(layout, channels)| {
-        let regions = layout.packet_regions().into_iter();
-        let regions: Vec<Vec<u16>> = regions
-            .flat_map(|region| {
-                channels
-                    .each_ref()
-                    .map(|words| words[region.clone()].to_vec())
-            })
-            .collect();
-        let lengths = |region: &Vec<u16>| -> Vec<usize> {
-            let ended = region.split_inclusive(|&word| word == 0);
-            let ended = ended.filter(|words| words.ends_with(&[0]));
-            ended.map(|words| words.len() - 1).collect()
-        };
-        regions.iter().flat_map(lengths).collect::<Vec<usize>>()
+        let mut lengths = Vec::new();
+        for words in &channels {
+            for region in layout.packet_regions() {
+                let ended = words[region].split_inclusive(|&word| word == 0);
+                let ended = ended.filter(|words| words.ends_with(&[0]));
+                lengths.extend(ended.map(|words| words.len() - 1));
+            }
+        }
+        lengths
     });
     assert_at_every_place(stretches.filter(|&length| length >= SIXTEEN), 3);
 }
@@ -65,15 +60,13 @@ fn a_000_comes_at_every_place_after_a_stretch_without_one() {
 #[test]
 fn every_reserved_code_comes_in_a_picture_and_at_every_place() {
     let rows = asked(&[CHECK_ROW]).filter_map(|asked| read_row(asked, 5));
-    let pictures = rows.filter(|(layout, _)| !layout.v);
-    let active: Vec<Vec<u16>> = pictures
-        .flat_map(|(layout, channels)| channels.map(|words| words[layout.active()].to_vec()))
-        .collect();
-    let reserved = |words: &'_ Vec<u16>| -> Vec<(usize, u16)> {
-        let words = words.iter().copied().enumerate();
-        words.filter(|(_, word)| is_reserved(*word)).collect()
-    };
-    let found: Vec<(usize, u16)> = active.iter().flat_map(reserved).collect();
+    let mut found = Vec::new();
+    for (layout, channels) in rows.filter(|(layout, _)| !layout.v) {
+        for words in channels {
+            let active = words[layout.active()].iter().copied().enumerate();
+            found.extend(active.filter(|(_, word)| is_reserved(*word)));
+        }
+    }
     for code in (0..4).chain(0x3fc..0x400) {
         let come = found.iter().filter(|(_, word)| *word == code);
         assert!(come.count() >= 3, "{code:x}");

@@ -22,7 +22,6 @@ pub struct Desk {
 }
 
 impl Desk {
-    /// The desk with another session.
     pub fn with_session(self, numbers: Numbers) -> Self {
         let session = numbers.session().ok();
         Self {
@@ -32,7 +31,6 @@ impl Desk {
         }
     }
 
-    /// The numbers of its session.
     pub fn numbers(&self) -> Numbers {
         self.running.as_ref().map_or(self.idle, Session::numbers)
     }

@@ -42,7 +42,6 @@ fn low_byte(word: u16) -> u8 {
     word as u8
 }
 
-/// What one scan of a region finds.
 pub struct Scan {
     /// Where the whole packets stand.
     pub whole: Vec<Range<usize>>,

@@ -89,7 +89,6 @@ fn f(raster: Raster, line: u32) -> bool {
     raster.kind == TwoFields && (564..=1125).contains(&line)
 }
 
-/// V and F of a line.
 pub fn v_and_f(code: u32, line: u32) -> Result<(bool, bool), Refusal> {
     let raster = raster_with_line(code, line)?;
     Ok((v(raster, line), f(raster, line)))

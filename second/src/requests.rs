@@ -13,7 +13,6 @@ use crate::refusal::Refusal;
 
 type Answer = Result<Vec<u32>, String>;
 
-/// The answer line of a request line.
 pub fn answer(line: &str) -> Result<String, String> {
     let mut arguments = Arguments::parse(line)?;
     let numbers = call(&mut arguments)?;

@@ -6,7 +6,6 @@ use crate::packet::{identity, whole_packets};
 use crate::refusal::{refuse, Refusal};
 use crate::words::fill;
 
-/// The whole packets of a channel.
 fn packets<'a>(layout: &Layout, words: &'a [u16]) -> Vec<&'a [u16]> {
     let regions = layout.packet_regions().into_iter();
     regions

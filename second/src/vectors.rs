@@ -248,11 +248,8 @@ mod tests {
     fn every_answer_is_the_published_one() {
         for vector in all() {
             let request = format_line(&vector.request);
-            assert_eq!(
-                answer(&request),
-                Ok(format_line(&vector.answer)),
-                "{request}"
-            );
+            let published = format_line(&vector.answer);
+            assert_eq!(answer(&request), Ok(published), "{request}");
         }
     }
 }

@@ -84,10 +84,8 @@ fn answers_that_are_missing_or_too_many_are_laid_to_a_request() {
     let answers = after(&doubled, "command");
     assert!(answers.contains("(2 answers to 1 requests"), "{doubled}");
     let failed = said(&words, r#""$0" answer; exit 3"#);
-    assert!(
-        after(&failed, "command").contains("exit status: 3"),
-        "{failed}"
-    );
+    let answers = after(&failed, "command");
+    assert!(answers.contains("exit status: 3"), "{failed}");
 }
 
 /// The fifth answer is wrong, whatever was asked.

@@ -20,10 +20,8 @@ fn assert_refused(bytes: &[u8], number: u32) {
     let good = job(&[]).bytes();
     let refused = format!("bad file {number}\n");
     assert_eq!(printed(bytes), refused, "{bytes:x?}");
-    assert_eq!(
-        printed(&*[&good, bytes].concat()),
-        A17.to_string() + &refused
-    );
+    let after_good = printed(&*[&good, bytes].concat());
+    assert_eq!(after_good, A17.to_string() + &refused);
 }
 
 /// The same for bytes that are refused before their end.

@@ -51,7 +51,6 @@ pub struct Piece {
     pub numbers: Vec<u32>,
 }
 
-/// The sections of a job.
 const SECTIONS: [(Kind, usize); 3] = [(Kind::Tag, 1), (Kind::Options, 1), (Kind::Words, 2)];
 
 #[derive(Clone, Debug, PartialEq)]
@@ -140,7 +139,6 @@ impl Parts {
         parts
     }
 
-    /// How many jobs a bench file has.
     pub fn jobs(&self) -> usize {
         let tags = self.pieces.iter().filter(|piece| piece.kind == Kind::Tag);
         tags.count()
@@ -239,13 +237,6 @@ mod tests {
         for request in requests(9, 3000).chain(vectors::requests()) {
             let parts = Parts::of_request(&request).expect("it is a request");
             assert!(parts.put() == format_line(&request).into_bytes());
-        }
-    }
-
-    #[test]
-    fn what_is_no_request_has_no_parts() {
-        for request in [&[][..], &[0x99, 1], &[FIND_SYNC, 2, 1], &[XYZ, 0, 0, 0, 0]] {
-            assert_eq!(Parts::of_request(request), None);
         }
     }
 

@@ -37,10 +37,7 @@ fn a_desk_tells_what_bench_prints() {
         }
         let printed = printed(&file[..]).into_bytes();
         for part in [usize::MAX, 1 + seed as usize * 37 % 5000] {
-            assert!(
-                lines(&file, part) == printed,
-                "file {seed} in parts of {part}"
-            );
+            assert!(lines(&file, part) == printed, "file {seed} by {part}");
         }
         compared += 1;
     }

@@ -11,7 +11,6 @@ pub enum Outcome {
     Refused(u32),
 }
 
-/// A job that is done.
 #[derive(Clone, Debug, Default, PartialEq, Eq)]
 pub struct Done {
     pub tag: Vec<u8>,

@@ -6,7 +6,6 @@ use crate::refusal::{refuse, Refusal};
 use crate::words::is_word;
 use std::mem::take;
 
-/// What is read next.
 #[derive(Clone, Copy, Debug, Default, PartialEq, Eq)]
 pub enum Stage {
     #[default]
@@ -29,7 +28,6 @@ pub struct Reader {
     pub count: Vec<u8>,
     /// How many bytes of the tag are left, or how many words, the one being read among them.
     pub left: u32,
-    /// The low byte of a word.
     pub low: u8,
     pub raster: u8,
     pub wipe: bool,

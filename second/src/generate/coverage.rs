@@ -9,11 +9,11 @@ mod sessions;
 mod walk;
 
 use super::requests;
+use super::session_requests::Feed;
 use crate::arguments::Arguments;
 use crate::functions::*;
 use crate::gate::{REQUESTS_OF_A_SEED, REQUEST_SEEDS};
 use crate::requests::{answer, format_line};
-use crate::session::Numbers;
 use std::collections::BTreeMap;
 use std::fmt::Display;
 use std::sync::OnceLock;
@@ -21,7 +21,6 @@ use std::sync::OnceLock;
 /// So many the request format's table has.
 const FUNCTIONS: usize = 25;
 
-/// A request and its answer.
 pub struct Asked {
     pub request: Vec<u32>,
     pub answer: Vec<u32>,
@@ -64,13 +63,7 @@ pub fn answered(functions: &'static [u32]) -> impl Iterator<Item = &'static Aske
     asked(functions).filter(|asked| asked.answer[0] == 0)
 }
 
-/// What a feed takes.
-pub struct Feed {
-    pub numbers: Numbers,
-    pub words: Vec<u16>,
-    pub buffers: [Vec<u16>; 2],
-}
-
+/// What a feed takes, with the words as they are on the cable.
 pub fn feed(asked: &Asked) -> Feed {
     let mut arguments = asked.arguments(0);
     let numbers = arguments.session().expect("a session");

@@ -4,7 +4,6 @@ use super::lists;
 use crate::packet::{self, checksum, MARKER};
 use crate::random::Random;
 
-/// DID and SDID.
 pub type Pair = (u8, u8);
 
 const DIDS: [u8; 5] = [0x41, 0x61, 0xff, 0x80, 0x00];

@@ -91,7 +91,6 @@ const LINES: [Line; 4] = [
     ([0x204, 0x200], [0x155, 0x2aa]),
 ];
 
-/// The rows' words in cable order.
 fn cable_order(rows: &[[Vec<u16>; 2]]) -> Vec<u16> {
     let pairs = rows
         .iter()

@@ -31,10 +31,8 @@ fn after_sync(row: &Row, pairs: usize) -> Numbers {
 }
 
 fn seen(row: &Row) -> Numbers {
-    Numbers {
-        seen: true,
-        ..of(row.raster())
-    }
+    let (seen, begun) = (true, of(row.raster()));
+    Numbers { seen, ..begun }
 }
 
 /// What the session answers that is fed the XYZ pair of C and Y, "C word first, then Y", scrambled from history 0.
@@ -129,12 +127,9 @@ fn lines_taken() -> Vec<Vector> {
 
 /// The session after one fault, which has no line and no carry, with so many pairs of an open row.
 fn one_fault(row: &Row, pairs: u32) -> Numbers {
-    Numbers {
-        pairs,
-        rows: 5,
-        faults: 7,
-        ..seen(row)
-    }
+    let mut numbers = seen(row);
+    (numbers.pairs, numbers.rows, numbers.faults) = (pairs, 5, 7);
+    numbers
 }
 
 /// "an EAV at another distance; the four pairs after the T-th not an EAV": they "drop the row, carry and expected line".

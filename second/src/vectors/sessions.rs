@@ -89,19 +89,17 @@ fn end(raster: u32, seen: bool, rows: u32, faults: u32, verdict: u32) -> Vector 
     vector(&request, &answer)
 }
 
-/// "a session number outside the range docs/ gives for it": each number by one.
-fn out_of_range() -> Vec<Vector> {
+/// A session, and what becomes one of its fifteen numbers: the raster has place 1, the carry 10 to 12.
+type Change = (Numbers, usize, u32);
+
+/// "a session number outside the range docs/ gives for it": each number by one; a carry "none where line is 0".
+fn changes() -> [Change; 18] {
     let (closed, open) = (Numbers::default(), of(1));
     let (pairs, bit) = (9, 7);
     let row = Numbers { pairs, bit, ..open };
-    let (line, carry) = (1, Some([0; 2]));
-    let judged = Numbers {
-        line,
-        carry,
-        ..open
-    };
-    // By their places in a SESSION: the raster is 1, the carry 10 to 12; "none where line is 0".
-    let changes = [
+    let mut judged = open;
+    (judged.line, judged.carry) = (1, Some([0; 2]));
+    [
         (open, 1, 0),
         (open, 1, 12),
         (closed, 1, 1),
@@ -120,21 +118,21 @@ fn out_of_range() -> Vec<Vector> {
         (judged, 12, 0x40000),
         (judged, 9, 0),
         (closed, 10, 1),
-    ];
-    let refused = changes.into_iter().flat_map(|(numbers, place, number)| {
+    ]
+}
+
+fn out_of_range() -> Vec<Vector> {
+    let refused = changes().into_iter().flat_map(|(numbers, place, number)| {
         let mut list = numbers.list();
         list[place] = number;
-        let feed = [&[FEED], &list[..], &[0; 5]].concat();
+        let refused = |function, arguments: &[u32], values: &[u32], buffers: &[u32]| {
+            let request = [&[function], &list[..], arguments].concat();
+            vector(&request, &[&[7], values, &list, buffers].concat())
+        };
         [
-            vector(
-                &[&[BEGIN], &list[..], &[1]].concat(),
-                &[&[7], &list[..]].concat(),
-            ),
-            vector(
-                &[&[END], &list[..]].concat(),
-                &[&[7, 0, 0, 0, 0], &list[..]].concat(),
-            ),
-            vector(&feed, &[&[7], &list[..], &[0, 0]].concat()),
+            refused(BEGIN, &[1], &[], &[]),
+            refused(FEED, &[0; 5], &[], &[0, 0]),
+            refused(END, &[], &[0; 4], &[]),
         ]
     });
     refused.collect()

@@ -1,9 +1,11 @@
 //! Rows whose packets are sought, copied and wiped.
 
 use super::built::{rows, Row, BLANKING, PACKETS};
+use super::packets::NINTH;
 use super::{vector, Vector};
 use crate::functions::*;
 use crate::runs::runs;
+use crate::words::lay;
 
 /// One row with packets in the blanking only, and one with packets in the active words too.
 pub fn all() -> Vec<Vector> {
@@ -14,6 +16,7 @@ pub fn all() -> Vec<Vector> {
             vectors.extend([0, 1].map(|channel| extracted(&row, channel)));
             vectors.push(row.corrected(true, 1, &wiped(&row)));
             vectors.push(wiped(&row).checked(true, 0));
+            vectors.extend(sought_in_order(&row));
             vectors
         })
         .collect()
@@ -24,14 +27,42 @@ fn sought(row: &Row) -> Vec<Vector> {
     let [y, c] = PACKETS;
     [(0x41, 0x01, y), (0x61, 0x02, c), (0x41, 0x02, &[])]
         .into_iter()
-        .map(|(did, sdid, part)| {
-            let request = [
-                &[FIND_PACKET, row.code, row.line, did, sdid],
-                &row.runs()[..],
-            ];
-            vector(&request.concat(), &[&[0], &runs(part)[..]].concat())
-        })
+        .map(|(did, sdid, part)| found(row, did, sdid, part))
         .collect()
+}
+
+fn found(row: &Row, did: u32, sdid: u32, part: &[u16]) -> Vector {
+    let start = [FIND_PACKET, row.code, row.line, did, sdid];
+    let request = [&start, &row.runs()[..]].concat();
+    vector(&request, &[&[0], &runs(part)[..]].concat())
+}
+
+/// "Y before C"; "blanking before active words": Y's packet three times, told by its DC, of which the first found is blanked.
+fn sought_in_order(row: &Row) -> Vec<Vector> {
+    let active = row.sav + 4;
+    let places = [(0, 8, 0x104), (0, active, 0x204), (1, 8, 0x304)];
+    let packet = |dc| {
+        let mut packet = NINTH;
+        packet[5] = dc;
+        packet
+    };
+    let mut row = wiped(row);
+    for (channel, place, dc) in places {
+        lay(&mut row.words[channel], place, &packet(dc));
+    }
+    let mut vectors = Vec::new();
+    for (channel, place, dc) in places
+        .into_iter()
+        .filter(|place| row.v || place.1 != active)
+    {
+        vectors.push(found(&row, 0x41, 0x01, &packet(dc)));
+        lay(
+            &mut row.words[channel],
+            place,
+            &[BLANKING[channel]; NINTH.len()],
+        );
+    }
+    vectors
 }
 
 /// "Extraction copies all whole packets of a channel, in order, end to end."

@@ -39,10 +39,8 @@ impl Reading {
     /// Takes bytes up to the one that ends a job or is refused, and answers how many.
     pub fn take(&mut self, bytes: &[u8], seen: &mut Seen) -> usize {
         let ends = |&byte: &u8| self.take_byte(byte, seen);
-        let taken = bytes
-            .iter()
-            .position(ends)
-            .map_or(bytes.len(), |last| last + 1);
+        let last = bytes.iter().position(ends);
+        let taken = last.map_or(bytes.len(), |last| last + 1);
         if self.reader.is_in_words() {
             self.note("lent", seen);
         }
@@ -83,10 +81,9 @@ impl Reading {
 
     /// Something ends after so many words, if that is about one of the lengths, or they are few; a cut also after half a word.
     fn note(&self, what: &str, seen: &mut Seen) {
-        let half = if what == "cut" && self.reader.stage == Stage::High {
-            " and a half"
-        } else {
-            ""
+        let half = match self.reader.stage {
+            Stage::High if what == "cut" => " and a half",
+            _ => "",
         };
         let about = |length: &&usize| self.read.abs_diff(**length) <= 2;
         if self.read <= 3 || LENGTHS.iter().any(|length| about(&length)) {

@@ -41,24 +41,28 @@ type Maker = fn(&mut Generator) -> Request;
 
 /// How often each function is asked for; the more there is to get wrong, the oftener.
 const MAKERS: [(u32, Maker); 27] = [
-    (1, |made| vec![RASTER_ROW, rasters::code(&mut made.random)]),
-    (3, |made| {
-        request(&[&[NAME_RASTER], &rasters::naming(&mut made.random)])
+    (1, |generator| {
+        vec![RASTER_ROW, rasters::code(&mut generator.random)]
+    }),
+    (3, |generator| {
+        request(&[&[NAME_RASTER], &rasters::naming(&mut generator.random)])
     }),
     (4, Generator::v_and_f),
     (6, Generator::crc_after_words),
-    (3, |made| vec![CRC_WORDS, lists::register(&mut made.random)]),
-    (6, |made| made.scrambler(SCRAMBLE)),
-    (6, |made| made.scrambler(UNSCRAMBLE)),
+    (3, |generator| {
+        vec![CRC_WORDS, lists::register(&mut generator.random)]
+    }),
+    (6, |generator| generator.scrambler(SCRAMBLE)),
+    (6, |generator| generator.scrambler(UNSCRAMBLE)),
     (3, Generator::unscramble_two),
-    (9, |made| {
-        request(&[&[FIND_SYNC], &list(&syncs::words(&mut made.random))])
+    (9, |generator| {
+        request(&[&[FIND_SYNC], &list(&syncs::words(&mut generator.random))])
     }),
-    (1, |made| {
-        request(&[&[XYZ], &[(); 3].map(|()| made.random.below(2))])
+    (1, |generator| {
+        request(&[&[XYZ], &[(); 3].map(|()| generator.random.below(2))])
     }),
-    (3, |made| {
-        vec![READ_XYZ, codes::xyz(&mut made.random).into()]
+    (3, |generator| {
+        vec![READ_XYZ, codes::xyz(&mut generator.random).into()]
     }),
     (4, Generator::line_words),
     (8, Generator::read_line),
@@ -72,7 +76,7 @@ const MAKERS: [(u32, Maker); 27] = [
     (62, Generator::feed),
     (24, Generator::feed_with_a_code),
     (10, Generator::end),
-    (22, |made| modules::module(&mut made.random)),
+    (22, |generator| modules::module(&mut generator.random)),
     (10, Generator::desk),
     (14, Generator::take),
     (4, Generator::outcome_line),

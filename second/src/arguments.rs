@@ -18,7 +18,9 @@ impl Arguments {
     }
 
     pub fn number(&mut self) -> Result<u32, String> {
-        self.0.next().ok_or_else(|| "an argument is missing".to_string())
+        self.0
+            .next()
+            .ok_or_else(|| "an argument is missing".to_string())
     }
 
     /// "an element of a list, a word and a history are below 2^16"

@@ -39,13 +39,17 @@ fn job(sections: &mut Sections<impl Read>) -> Result<Option<Vec<u8>>, Refusal> {
     };
     let raster = sections.raster()?;
     let words = sections.words()?;
-    let Report { raster, rows, faults, verdict } = module::report(raster, &words);
+    let Report {
+        raster,
+        rows,
+        faults,
+        verdict,
+    } = module::report(raster, &words);
     let line = line::of_job(&tag, [raster, rows, faults], Some(verdict));
     Ok(Some(line))
 }
 
 /// What is printed for an input.
-#[cfg(test)]
 pub fn printed(input: impl Read) -> String {
     let mut output = Vec::new();
     bench(input, &mut output).expect("a list takes all that is written");

@@ -28,7 +28,10 @@ pub fn build(
     });
     let reserved = |words: &Vec<u16>| layout.makes_reserved(&words[CRC]);
     let short = |buffer: &&mut [u16]| buffer.len() < layout.total();
-    refuse(&[(Refusal::Made, built.iter().any(reserved)), (Refusal::Short, buffers.iter().any(short))])?;
+    refuse(&[
+        (Refusal::Made, built.iter().any(reserved)),
+        (Refusal::Short, buffers.iter().any(short)),
+    ])?;
     for (buffer, words) in buffers.into_iter().zip(&built) {
         fill(buffer, words);
     }

@@ -31,7 +31,9 @@ pub fn scrambled(history: u16, words: &[u16]) -> Vec<bool> {
 
 /// "d(n) = s(n) xor s(n-5) xor s(n-9)", for each bit after the history.
 pub fn unscrambled(w: &[bool]) -> Vec<bool> {
-    (HISTORY_BITS..w.len()).map(|n| s(w, n) ^ s(w, n - 5) ^ s(w, n - 9)).collect()
+    (HISTORY_BITS..w.len())
+        .map(|n| s(w, n) ^ s(w, n - 5) ^ s(w, n - 9))
+        .collect()
 }
 
 pub fn cable_bits(history: u16, words: &[u16]) -> Vec<bool> {

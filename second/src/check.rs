@@ -9,9 +9,9 @@ use crate::words::{all_words, any_reserved};
 /// The layout of a row that can be read, or its refusal: 4, 5, 2 or 3.
 pub fn readable(code: u32, line: u32, row: Row) -> Result<Layout, Refusal> {
     let layout = Layout::of(code, line)?;
-    let total = layout.total();
+    let is_not_total = |words: &&[u16]| words.len() != layout.total();
     refuse(&[
-        (Refusal::Length, row.iter().any(|words| words.len() != total)),
+        (Refusal::Length, row.iter().any(is_not_total)),
         (Refusal::Word, !row.iter().all(|words| all_words(words))),
     ])?;
     Ok(layout)
@@ -31,7 +31,12 @@ pub fn checkable(code: u32, line: u32, carry: Option<Carry>, row: Row) -> Result
 }
 
 /// The flags of a row and the next carry, or a refusal.
-pub fn check(code: u32, line: u32, carry: Option<Carry>, row: Row) -> Result<(u32, Carry), Refusal> {
+pub fn check(
+    code: u32,
+    line: u32,
+    carry: Option<Carry>,
+    row: Row,
+) -> Result<(u32, Carry), Refusal> {
     let layout = checkable(code, line, carry, row)?;
     Ok(judge(&layout, carry, row))
 }

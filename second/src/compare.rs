@@ -1,48 +1,42 @@
 //! Compares what a command answers or prints with this program's own, and finds the smallest input that they differ on.
 
-mod answers;
 mod budget;
 mod changes;
 mod command;
 mod files;
+mod judge;
 mod parts;
 mod requests;
 mod shrinking;
 
-use crate::generate::{captures, cuts, files::file, fixed, frames::frames, Generator};
-use crate::{decimal, vectors, Failure, USAGE};
+use crate::generate::{self, captures, cuts, fixed};
+use crate::{decimal, usage, vectors, Failure};
 use command::Command;
 use std::io::Write;
 
-/// Files with what makes each again.
-type Files = Box<dyn Iterator<Item = (String, Vec<u8>)>>;
+/// What `second` makes files by.
+type Names = Box<dyn Iterator<Item = String>>;
 
 /// Writes how many were alike. What they differ on is a failure, whose message has it.
 pub fn compare(words: &[&str], output: &mut impl Write) -> Result<(), Failure> {
     let alike = match words {
         ["requests", seed, count, command @ ..] => {
-            let mut generator = Generator::new(decimal(seed)?);
-            let requests = (0..decimal(count)?).map(|_| generator.request());
+            let requests = generate::requests(decimal(seed)?, decimal(count)?);
             let made_by = format!("requests {seed} {count}");
             requests::compare(&made_by, requests, &command_of(command)?)?
         }
         ["vectors", command @ ..] => {
-            let requests = vectors::all().into_iter().map(|vector| vector.request);
-            requests::compare("vectors", requests, &command_of(command)?)?
+            requests::compare("vectors", vectors::requests(), &command_of(command)?)?
         }
         _ => {
-            let (files, command) = files_of(words)?;
-            files::compare(files, &command_of(command)?)?
+            let (names, command) = files_of(words)?;
+            files::compare(names, &command_of(command)?)?
         }
     };
     if alike == 0 {
         return Err(Failure::Message("there is nothing to compare".to_string()));
     }
     Ok(writeln!(output, "{alike}")?)
-}
-
-fn usage() -> Failure {
-    Failure::Message(USAGE.to_string())
 }
 
 fn command_of<'a>(words: &'a [&'a str]) -> Result<Command<'a>, Failure> {
@@ -52,31 +46,31 @@ fn command_of<'a>(words: &'a [&'a str]) -> Result<Command<'a>, Failure> {
     Ok(Command { program, arguments })
 }
 
-/// The files that the words ask for, and the words of the command.
-fn files_of<'a>(words: &'a [&'a str]) -> Result<(Files, &'a [&'a str]), Failure> {
+/// What makes each of the files that the words ask for, and the words of the command.
+fn files_of<'a>(words: &'a [&'a str]) -> Result<(Names, &'a [&'a str]), Failure> {
     Ok(match words {
         ["files", first, last, command @ ..] => {
             let seeds = decimal(first)?..=decimal(last)?;
-            let files = seeds.map(|seed| (format!("file {seed}"), file(seed).bytes));
-            (Box::new(files), command)
+            (Box::new(seeds.map(|seed| format!("file {seed}"))), command)
         }
         ["captures", command @ ..] => {
-            let captured = |name| Some((format!("capture {name}"), captures::capture(name)?));
-            let files = captures::names().into_iter().filter_map(captured);
-            (Box::new(files), command)
+            let names = captures::names().into_iter();
+            (
+                Box::new(names.map(|name| format!("capture {name}"))),
+                command,
+            )
         }
         ["frames", command @ ..] => {
-            let frame = |code| Some((format!("frames {code} 1 1"), frames(code, 1, 1).ok()?));
-            (Box::new((0..=11).filter_map(frame)), command)
+            let names = (0..=11).map(|code| format!("frames {code} 1 1"));
+            (Box::new(names), command)
         }
         ["cuts", command @ ..] => {
-            let file = cuts::file();
-            let cut = move |place| (format!("cut {place}"), file[..place].to_vec());
-            (Box::new((0..=cuts::file().len()).map(cut)), command)
+            let names = (0..=cuts::file().len()).map(|place| format!("cut {place}"));
+            (Box::new(names), command)
         }
         ["fixed", command @ ..] => {
-            let made = |number| Some((format!("fixed {number}"), fixed::file(number)?));
-            (Box::new((0..fixed::count()).filter_map(made)), command)
+            let names = (0..fixed::count()).map(|number| format!("fixed {number}"));
+            (Box::new(names), command)
         }
         _ => return Err(usage()),
     })

@@ -22,7 +22,9 @@ fn after_word(register: u32, word: u16) -> u32 {
 
 /// The register after words, refusing nothing.
 pub fn after_words(register: u32, words: &[u16]) -> u32 {
-    words.iter().fold(register, |register, &word| after_word(register, word))
+    words
+        .iter()
+        .fold(register, |register, &word| after_word(register, word))
 }
 
 /// "The carry is each channel's CRC register after a row's active words": that of Y, then that of C.
@@ -40,7 +42,10 @@ pub fn is_carry(register: u32) -> bool {
 
 /// The register after words, or refusal 3.
 pub fn checked_after_words(register: u32, words: &[u16]) -> Result<u32, Refusal> {
-    refuse(&[(Refusal::Word, !is_carry(register)), (Refusal::Word, !all_words(words))])?;
+    refuse(&[
+        (Refusal::Word, !is_carry(register)),
+        (Refusal::Word, !all_words(words)),
+    ])?;
     Ok(after_words(register, words))
 }
 
@@ -52,7 +57,9 @@ pub fn crc_words(register: u32) -> Result<(u16, u16), Refusal> {
 
 /// "CR0 holds register bits 8..0, CR1 bits 17..9; bit 9 is the inverse of bit 8."
 pub fn encode(register: u32) -> (u16, u16) {
-    let bits: Vec<bool> = (0..REGISTER_BITS).map(|place| register >> place & 1 == 1).collect();
+    let bits: Vec<bool> = (0..REGISTER_BITS)
+        .map(|place| register >> place & 1 == 1)
+        .collect();
     (crc_word(&bits[0..9]), crc_word(&bits[9..18]))
 }
 

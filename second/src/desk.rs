@@ -1,5 +1,7 @@
 //! A desk: it is lent the bytes of a bench file, cut anywhere, and tells what comes of them.
 
+#[cfg(test)]
+mod as_bench;
 mod outcome;
 pub mod reader;
 
@@ -20,22 +22,29 @@ pub struct Desk {
 }
 
 impl Desk {
-    /// The desk with another session.
     pub fn with_session(self, numbers: Numbers) -> Self {
         let session = numbers.session().ok();
-        Self { running: session.filter(|_| numbers.open), idle: numbers, ..self }
+        Self {
+            running: session.filter(|_| numbers.open),
+            idle: numbers,
+            ..self
+        }
     }
 
-    /// The numbers of its session.
     pub fn numbers(&self) -> Numbers {
         self.running.as_ref().map_or(self.idle, Session::numbers)
     }
 
     /// Takes bytes up to the one that ends a job or is refused; answers how many it took, and what comes of them.
-    pub fn take(&mut self, bytes: &[u8], buffers: &mut Buffers) -> Result<(usize, Outcome), Refusal> {
+    pub fn take(
+        &mut self,
+        bytes: &[u8],
+        buffers: &mut Buffers,
+    ) -> Result<(usize, Outcome), Refusal> {
         let short = |buffer: &&mut [u16]| buffer.len() < longest_row();
+        let is_closed = self.reader.is_in_words() && self.running.is_none();
         refuse(&[
-            (Refusal::Session, self.reader.is_in_words() && self.running.is_none()),
+            (Refusal::Session, is_closed),
             (Refusal::Short, buffers.iter().any(short)),
         ])?;
         for (place, &byte) in bytes.iter().enumerate() {
@@ -64,14 +73,16 @@ impl Desk {
     /// "Its session is begun anew when the options are read".
     fn begin(&mut self, raster: u8) {
         let mut session = Session::default();
-        session.begin(raster.into()).expect("it is fresh, and the raster was read");
+        let begun = session.begin(raster.into());
+        begun.expect("it is fresh, and the raster was read");
         self.running = Some(session);
     }
 
     /// "fed a word at a time"; a session is running while words are read.
     fn feed(&mut self, word: u16, buffers: &mut Buffers) {
         if let Some(session) = &mut self.running {
-            session.take_words(&[word], buffers);
+            let fed = session.feed(&[word], buffers);
+            fed.expect("it is open, and word and buffers were judged");
         }
     }
 
@@ -107,5 +118,6 @@ impl Desk {
 
 /// "1 where a buffer has fewer than 4,125 words, whatever the raster": T of the longest row.
 pub fn longest_row() -> usize {
-    TABLE.map(|raster| raster.total).into_iter().max().unwrap_or(0) as usize
+    let totals = TABLE.map(|raster| raster.total as usize);
+    totals.into_iter().max().unwrap_or(0)
 }

@@ -10,7 +10,6 @@ mod coverage;
 pub mod cuts;
 mod desk_requests;
 mod desks;
-mod faults;
 pub mod files;
 pub mod fixed;
 pub mod frames;
@@ -22,23 +21,19 @@ mod packet_requests;
 mod picture;
 mod pieces;
 mod rasters;
+mod refused_rows;
 mod regions;
 mod row_requests;
 mod rows;
-#[cfg(test)]
-mod section_ends;
 mod session_requests;
 mod sessions;
 pub mod signals;
 mod streams;
 mod syncs;
-#[cfg(test)]
-mod walk;
-#[cfg(test)]
-mod whole_desks;
 
 use crate::functions::*;
 use crate::random::Random;
+use crate::runs::list;
 use crate::timing;
 
 type Request = Vec<u32>;
@@ -46,17 +41,29 @@ type Maker = fn(&mut Generator) -> Request;
 
 /// How often each function is asked for; the more there is to get wrong, the oftener.
 const MAKERS: [(u32, Maker); 27] = [
-    (1, Generator::raster_row),
-    (3, Generator::name_raster),
+    (1, |generator| {
+        vec![RASTER_ROW, rasters::code(&mut generator.random)]
+    }),
+    (3, |generator| {
+        request(&[&[NAME_RASTER], &rasters::naming(&mut generator.random)])
+    }),
     (4, Generator::v_and_f),
     (6, Generator::crc_after_words),
-    (3, Generator::crc_words),
-    (6, Generator::scramble),
-    (6, Generator::unscramble),
+    (3, |generator| {
+        vec![CRC_WORDS, lists::register(&mut generator.random)]
+    }),
+    (6, |generator| generator.scrambler(SCRAMBLE)),
+    (6, |generator| generator.scrambler(UNSCRAMBLE)),
     (3, Generator::unscramble_two),
-    (9, Generator::find_sync),
-    (1, Generator::xyz),
-    (3, Generator::read_xyz),
+    (9, |generator| {
+        request(&[&[FIND_SYNC], &list(&syncs::words(&mut generator.random))])
+    }),
+    (1, |generator| {
+        request(&[&[XYZ], &[(); 3].map(|()| generator.random.below(2))])
+    }),
+    (3, |generator| {
+        vec![READ_XYZ, codes::xyz(&mut generator.random).into()]
+    }),
     (4, Generator::line_words),
     (8, Generator::read_line),
     (8, Generator::build_packet),
@@ -69,13 +76,13 @@ const MAKERS: [(u32, Maker); 27] = [
     (62, Generator::feed),
     (24, Generator::feed_with_a_code),
     (10, Generator::end),
-    (22, Generator::module),
+    (22, |generator| modules::module(&mut generator.random)),
     (10, Generator::desk),
     (14, Generator::take),
     (4, Generator::outcome_line),
 ];
 
-pub struct Generator {
+struct Generator {
     random: Random,
     /// The next of the lines that eleven bits can hold, taken in turn so that all of them come.
     line: u32,
@@ -83,12 +90,22 @@ pub struct Generator {
     turn: usize,
 }
 
+/// The same seed, the same requests.
+pub fn requests(seed: u64, count: u64) -> impl Iterator<Item = Request> {
+    let mut generator = Generator::new(seed);
+    (0..count).map(move |_| generator.request())
+}
+
 impl Generator {
-    pub fn new(seed: u64) -> Self {
-        Self { random: Random::new(seed), line: 0, turn: 0 }
+    fn new(seed: u64) -> Self {
+        Self {
+            random: Random::new(seed),
+            line: 0,
+            turn: 0,
+        }
     }
 
-    pub fn request(&mut self) -> Request {
+    fn request(&mut self) -> Request {
         let weights: u32 = MAKERS.iter().map(|(weight, _)| weight).sum();
         let mut chosen = self.random.below(weights);
         for (weight, maker) in MAKERS {
@@ -111,34 +128,10 @@ impl Generator {
         self.turn
     }
 
-    fn raster_row(&mut self) -> Request {
-        vec![RASTER_ROW, rasters::code(&mut self.random)]
-    }
-
-    fn name_raster(&mut self) -> Request {
-        request(&[&[NAME_RASTER], &rasters::naming(&mut self.random)])
-    }
-
-    fn v_and_f(&mut self) -> Request {
-        vec![V_AND_F, rasters::code(&mut self.random), rasters::line(&mut self.random)]
-    }
-
     fn crc_after_words(&mut self) -> Request {
         let register = lists::register(&mut self.random);
         let words = lists::words(&mut self.random);
         request(&[&[CRC_AFTER_WORDS, register], &list(&words)])
-    }
-
-    fn crc_words(&mut self) -> Request {
-        vec![CRC_WORDS, lists::register(&mut self.random)]
-    }
-
-    fn scramble(&mut self) -> Request {
-        self.scrambler(SCRAMBLE)
-    }
-
-    fn unscramble(&mut self) -> Request {
-        self.scrambler(UNSCRAMBLE)
     }
 
     fn scrambler(&mut self, function: u32) -> Request {
@@ -148,23 +141,15 @@ impl Generator {
         request(&[&[function, history.into()], &list(&words), &list(&output)])
     }
 
-    fn find_sync(&mut self) -> Request {
-        request(&[&[FIND_SYNC], &list(&syncs::words(&mut self.random))])
-    }
-
     /// Two words, which are often taken together.
     fn unscramble_two(&mut self) -> Request {
         let [history, first, second] = [(); 3].map(|()| lists::any_word(&mut self.random).into());
         vec![UNSCRAMBLE, history, 2, first, second, 2, 0, 0]
     }
 
-    fn xyz(&mut self) -> Request {
-        let fvh = [(); 3].map(|()| self.random.below(2));
-        request(&[&[XYZ], &fvh])
-    }
-
-    fn read_xyz(&mut self) -> Request {
-        vec![READ_XYZ, codes::xyz(&mut self.random).into()]
+    fn v_and_f(&mut self) -> Request {
+        let code = rasters::code(&mut self.random);
+        vec![V_AND_F, code, rasters::line(&mut self.random)]
     }
 
     fn line_words(&mut self) -> Request {
@@ -173,8 +158,11 @@ impl Generator {
     }
 
     fn read_line(&mut self) -> Request {
-        let (ln0, ln1) =
-            if self.random.bit() { timing::encode_line(self.next_line()) } else { codes::line_words(&mut self.random) };
+        let (ln0, ln1) = if self.random.bit() {
+            timing::encode_line(self.next_line())
+        } else {
+            codes::line_words(&mut self.random)
+        };
         let code = rasters::code(&mut self.random);
         vec![READ_LINE, code, ln0.into(), ln1.into()]
     }
@@ -182,9 +170,4 @@ impl Generator {
 
 fn request(parts: &[&[u32]]) -> Request {
     parts.concat()
-}
-
-fn list(words: &[u16]) -> Vec<u32> {
-    let elements = words.iter().map(|&word| u32::from(word));
-    std::iter::once(words.len() as u32).chain(elements).collect()
 }

@@ -9,7 +9,11 @@ pub struct Job {
 
 impl Job {
     pub fn new(tag: &str, raster: u8, wipe: bool, words: Vec<u16>) -> Self {
-        Self { tag: tag.into(), options: vec![raster, wipe.into()], words }
+        Self {
+            tag: tag.into(),
+            options: vec![raster, wipe.into()],
+            words,
+        }
     }
 
     /// The right counts: "of bytes, for words of words".

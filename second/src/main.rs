@@ -12,6 +12,8 @@ mod correct;
 mod crc;
 mod desk;
 mod functions;
+#[cfg(test)]
+mod gate;
 mod generate;
 mod job;
 mod layout;
@@ -28,10 +30,12 @@ mod timing;
 mod vectors;
 mod words;
 
-use generate::{cuts, files, fixed, frames, loads};
+use generate::{captures, cuts, files, fixed, frames, loads};
 use refusal::Refusal;
+use requests::format_line;
 use std::env;
-use std::io::{self, stdin, stdout, BufRead, BufWriter, ErrorKind, Write};
+use std::fmt::{self, Display, Formatter};
+use std::io::{self, stdin, stdout, BufRead, BufWriter, ErrorKind::BrokenPipe, Write};
 use std::process::ExitCode;
 
 const USAGE: &str =
@@ -54,45 +58,47 @@ impl From<io::Error> for Failure {
     }
 }
 
+impl Display for Failure {
+    fn fmt(&self, formatter: &mut Formatter) -> fmt::Result {
+        match self {
+            Self::Output(error) => error.fmt(formatter),
+            Self::Message(message) => message.fmt(formatter),
+        }
+    }
+}
+
 fn main() -> ExitCode {
     let arguments: Vec<String> = env::args().skip(1).collect();
     let arguments: Vec<&str> = arguments.iter().map(String::as_str).collect();
-    let message = match run(&arguments) {
-        Ok(()) => return ExitCode::SUCCESS,
+    match run(&arguments) {
+        Ok(()) => ExitCode::SUCCESS,
         // Nobody reads on.
-        Err(Failure::Output(error)) if error.kind() == ErrorKind::BrokenPipe => {
-            return ExitCode::SUCCESS;
+        Err(Failure::Output(error)) if error.kind() == BrokenPipe => ExitCode::SUCCESS,
+        Err(failure) => {
+            eprintln!("second: {failure}");
+            ExitCode::FAILURE
         }
-        Err(Failure::Output(error)) => error.to_string(),
-        Err(Failure::Message(message)) => message,
-    };
-    eprintln!("second: {message}");
-    ExitCode::FAILURE
+    }
 }
 
 fn run(arguments: &[&str]) -> Result<(), Failure> {
     let mut output = BufWriter::new(stdout().lock());
     match arguments {
         ["answer"] => print_answers(&mut output)?,
-        ["requests", seed, count] => print_requests(&mut output, decimal(seed)?, decimal(count)?)?,
-        ["vectors"] => print_vectors(&mut output)?,
+        ["requests", seed, count] => {
+            print_requests(
+                &mut output,
+                generate::requests(decimal(seed)?, decimal(count)?),
+            )?;
+        }
+        ["vectors"] => print_requests(&mut output, vectors::requests())?,
         ["bench"] => bench::bench(stdin().lock(), &mut output)?,
-        ["file", seed] => output.write_all(&files::file(decimal(seed)?).bytes)?,
         ["kinds", count] => print_kinds(&mut output, decimal(count)?)?,
-        ["frames", words @ ..] => output.write_all(&frames(frames::frames, words)?)?,
-        ["flipped", words @ ..] => output.write_all(&frames(frames::flipped, words)?)?,
-        ["slipped", words @ ..] => output.write_all(&frames(frames::slipped, words)?)?,
-        ["noise", count, seed] => output.write_all(&loads::noise(decimal(count)?, decimal(seed)?))?,
-        ["dead", count] => output.write_all(&loads::dead(decimal(count)?))?,
-        ["jobs", count, seed] => output.write_all(&loads::jobs(decimal(count)?, decimal(seed)?))?,
         ["compare", words @ ..] => compare::compare(words, &mut output)?,
         ["cuts"] => writeln!(output, "{}", cuts::file().len())?,
-        ["cut", place] => output.write_all(&cut(place)?)?,
         ["fixed"] => writeln!(output, "{}", fixed::count())?,
-        ["fixed", number] => output.write_all(&fixed_file(number)?)?,
-        ["captures"] => print_captures(&mut output)?,
-        ["capture", name] => output.write_all(&capture(name)?)?,
-        _ => return Err(Failure::Message(USAGE.to_string())),
+        ["captures"] => writeln!(output, "{}", captures::names().join("\n"))?,
+        _ => output.write_all(&made_file(arguments)?)?,
     }
     Ok(output.flush()?)
 }
@@ -105,27 +111,18 @@ fn decimal(text: &str) -> Result<u64, Failure> {
 fn print_answers(output: &mut impl Write) -> Result<(), Failure> {
     for (place, line) in stdin().lock().lines().enumerate() {
         let line = line.map_err(|error| Failure::Message(error.to_string()))?;
-        let answer =
-            requests::answer(&line).map_err(|error| Failure::Message(format!("request {}: {error}", place + 1)))?;
+        let answer = requests::answer(&line)
+            .map_err(|error| Failure::Message(format!("request {}: {error}", place + 1)))?;
         writeln!(output, "{answer}")?;
     }
     Ok(())
 }
 
-fn print_requests(output: &mut impl Write, seed: u64, count: u64) -> io::Result<()> {
-    let mut generator = generate::Generator::new(seed);
-    for _ in 0..count {
-        let request = generator.request();
-        writeln!(output, "{}", requests::format_line(&request))?;
-    }
-    Ok(())
-}
-
-fn print_vectors(output: &mut impl Write) -> io::Result<()> {
-    for vector in vectors::all() {
-        writeln!(output, "{}", requests::format_line(&vector.request))?;
-    }
-    Ok(())
+fn print_requests(
+    output: &mut impl Write,
+    mut requests: impl Iterator<Item = Vec<u32>>,
+) -> io::Result<()> {
+    requests.try_for_each(|request| writeln!(output, "{}", format_line(&request)))
 }
 
 /// In how many of the files of seeds 1 to the count each kind comes.
@@ -138,44 +135,38 @@ fn print_kinds(output: &mut impl Write, count: u64) -> io::Result<()> {
     Ok(())
 }
 
+/// The bench file that is asked for.
+fn made_file(arguments: &[&str]) -> Result<Vec<u8>, Failure> {
+    let place = |number| Ok::<_, Failure>(decimal(number)?.try_into().unwrap_or(usize::MAX));
+    let file = match arguments {
+        ["file", seed] => Some(files::file(decimal(seed)?).bytes),
+        ["frames", words @ ..] => frames(frames::frames, words)?,
+        ["flipped", words @ ..] => frames(frames::flipped, words)?,
+        ["slipped", words @ ..] => frames(frames::slipped, words)?,
+        ["noise", count, seed] => Some(loads::noise(decimal(count)?, decimal(seed)?)),
+        ["dead", count] => Some(loads::dead(decimal(count)?)),
+        ["jobs", count, seed] => Some(loads::jobs(decimal(count)?, decimal(seed)?)),
+        ["cut", bytes] => cuts::file().get(..place(bytes)?).map(<[u8]>::to_vec),
+        ["fixed", number] => fixed::file(place(number)?),
+        ["capture", name] => captures::capture(name),
+        _ => return Err(usage()),
+    };
+    let asked = arguments.join(" ");
+    file.ok_or_else(|| Failure::Message(format!("there is no file '{asked}'; {USAGE}")))
+}
+
+fn usage() -> Failure {
+    Failure::Message(USAGE.to_string())
+}
+
 /// A maker of frames, of a raster's code, how many, and a seed.
 type Maker = fn(u32, u64, u64) -> Result<Vec<u8>, Refusal>;
 
-fn frames(maker: Maker, words: &[&str]) -> Result<Vec<u8>, Failure> {
+/// None where there is no such raster.
+fn frames(maker: Maker, words: &[&str]) -> Result<Option<Vec<u8>>, Failure> {
     let [raster, count, seed] = words else {
-        return Err(Failure::Message(USAGE.to_string()));
+        return Err(usage());
     };
-    let message = || Failure::Message(format!("there is no raster '{raster}'; {USAGE}"));
-    let code = decimal(raster)?.try_into().map_err(|_| message())?;
-    maker(code, decimal(count)?, decimal(seed)?).map_err(|_| message())
-}
-
-/// The first bytes of the file of cuts.
-fn cut(place: &str) -> Result<Vec<u8>, Failure> {
-    let mut file = cuts::file();
-    let count = decimal(place)?;
-    if count > file.len() as u64 {
-        let message = format!("the file has {} bytes, not {place}; {USAGE}", file.len());
-        return Err(Failure::Message(message));
-    }
-    file.truncate(count as usize);
-    Ok(file)
-}
-
-fn fixed_file(number: &str) -> Result<Vec<u8>, Failure> {
-    let message = || Failure::Message(format!("there is no fixed file '{number}'; {USAGE}"));
-    let place = decimal(number)?.try_into().ok();
-    place.and_then(fixed::file).ok_or_else(message)
-}
-
-fn print_captures(output: &mut impl Write) -> io::Result<()> {
-    for name in generate::captures::names() {
-        writeln!(output, "{name}")?;
-    }
-    Ok(())
-}
-
-fn capture(name: &str) -> Result<Vec<u8>, Failure> {
-    let message = || Failure::Message(format!("there is no capture '{name}'; {USAGE}"));
-    generate::captures::capture(name).ok_or_else(message)
+    let code = decimal(raster)?.try_into().unwrap_or(u32::MAX);
+    Ok(maker(code, decimal(count)?, decimal(seed)?).ok())
 }

@@ -23,7 +23,13 @@ pub struct Raster {
 }
 
 const fn raster(code: u32, total: u32, active: u32, rows: u32, kind: Kind) -> Raster {
-    Raster { code, total, active, rows, kind }
+    Raster {
+        code,
+        total,
+        active,
+        rows,
+        kind,
+    }
 }
 
 pub const TABLE: [Raster; 11] = [
@@ -61,7 +67,10 @@ pub fn raster_with_line(code: u32, line: u32) -> Result<Raster, Refusal> {
 
 /// "Naming a raster takes T, A, N and kind, and answers the code, or 0 when no row of the table fits."
 pub fn name(total: u32, active: u32, rows: u32, kind: Kind) -> u32 {
-    TABLE.into_iter().find(|&row| row == raster(row.code, total, active, rows, kind)).map_or(0, |row| row.code)
+    TABLE
+        .into_iter()
+        .find(|&row| row == raster(row.code, total, active, rows, kind))
+        .map_or(0, |row| row.code)
 }
 
 /// "V is 0 on lines 26 to 745 (750 rows); 42 to 1121 (1125 progressive);
@@ -80,7 +89,6 @@ fn f(raster: Raster, line: u32) -> bool {
     raster.kind == TwoFields && (564..=1125).contains(&line)
 }
 
-/// V and F of a line.
 pub fn v_and_f(code: u32, line: u32) -> Result<(bool, bool), Refusal> {
     let raster = raster_with_line(code, line)?;
     Ok((v(raster, line), f(raster, line)))

@@ -13,7 +13,6 @@ use crate::refusal::Refusal;
 
 type Answer = Result<Vec<u32>, String>;
 
-/// The answer line of a request line.
 pub fn answer(line: &str) -> Result<String, String> {
     let mut arguments = Arguments::parse(line)?;
     let numbers = call(&mut arguments)?;
@@ -65,9 +64,4 @@ fn refusable<const COUNT: usize>(result: Result<[u32; COUNT], Refusal>) -> Vec<u
         Ok(values) => [&[0], &values[..]].concat(),
         Err(refusal) => [&[refusal.number()], &[0; COUNT][..]].concat(),
     }
-}
-
-fn list(elements: &[u16]) -> Vec<u32> {
-    let count = elements.len() as u32;
-    std::iter::once(count).chain(elements.iter().map(|&element| element.into())).collect()
 }

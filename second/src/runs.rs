@@ -1,4 +1,10 @@
-//! Lists of words by their runs.
+//! Lists of words, and by their runs.
+
+/// "the count of its elements and then the elements"
+pub fn list(words: &[u16]) -> Vec<u32> {
+    let elements = words.iter().map(|&word| u32::from(word));
+    [words.len() as u32].into_iter().chain(elements).collect()
+}
 
 /// "the count of runs, then for each run how many times (at least 1) and the word";
 /// "In an answer the runs are the longest possible".
@@ -26,8 +32,6 @@ pub fn signal(to_scramble: bool, words: &[u16]) -> Vec<u32> {
         let [one, other] = run[0].map(u32::from);
         numbers.extend([run.len() as u32, one, other]);
     }
-    let list = &words[words.len() - listed..];
-    numbers.push(listed as u32);
-    numbers.extend(list.iter().map(|&word| u32::from(word)));
+    numbers.extend(list(&words[words.len() - listed..]));
     numbers
 }

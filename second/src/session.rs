@@ -70,16 +70,12 @@ impl Session {
     pub fn feed(&mut self, words: &[u16], buffers: &mut Buffers) -> Result<(), Refusal> {
         let module = self.0.as_mut().ok_or(Refusal::Session)?;
         let short = |buffer: &&mut [u16]| buffer.len() < module.total();
-        refuse(&[(Refusal::Word, !all_words(words)), (Refusal::Short, buffers.iter().any(short))])?;
+        refuse(&[
+            (Refusal::Word, !all_words(words)),
+            (Refusal::Short, buffers.iter().any(short)),
+        ])?;
         module.feed(words, buffers);
         Ok(())
-    }
-
-    /// What feeding does to an open session, refusing nothing; of the words the low ten bits count.
-    pub fn take_words(&mut self, words: &[u16], buffers: &mut Buffers) {
-        if let Some(module) = &mut self.0 {
-            module.feed(words, buffers);
-        }
     }
 
     pub fn end(&mut self) -> Result<Report, Refusal> {

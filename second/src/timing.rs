@@ -3,6 +3,7 @@
 use crate::raster::{raster_of, raster_with_line, Raster};
 use crate::refusal::{refuse, Refusal};
 use crate::words::{is_word, word_of};
+use std::array::from_fn;
 
 /// The three words of each channel that a sync is made of: "20 ones then 40 zeros".
 pub const SYNC_WORDS: [u16; 3] = [0x3ff, 0x000, 0x000];
@@ -26,9 +27,9 @@ pub fn read_xyz(word: u16) -> Result<Option<(bool, bool, bool)>, Refusal> {
 /// "LN0: bits 8..2 are line bits 6..0. LN1: bits 5..2 are line bits 10..7.
 /// All other low bits are 0; bit 9 is the inverse of bit 8."
 pub fn encode_line(line: u32) -> (u16, u16) {
-    let bit = |place: u32| line >> place & 1 == 1;
-    let ln0 = [false, false, bit(0), bit(1), bit(2), bit(3), bit(4), bit(5), bit(6), !bit(6)];
-    let ln1 = [false, false, bit(7), bit(8), bit(9), bit(10), false, false, false, true];
+    let line: [bool; 11] = from_fn(|place| line >> place & 1 == 1);
+    let ln0 = [&[false; 2], &line[..7], &[!line[6]]].concat();
+    let ln1 = [&[false; 2], &line[7..], &[false, false, false, true]].concat();
     (word_of(&ln0), word_of(&ln1))
 }
 
@@ -42,7 +43,10 @@ pub fn line_words(code: u32, line: u32) -> Result<(u16, u16), Refusal> {
 pub fn read_line(code: u32, ln0: u16, ln1: u16) -> Result<u32, Refusal> {
     // 4 comes before 3 in the order.
     let raster = raster_of(code)?;
-    refuse(&[(Refusal::Word, !is_word(ln0)), (Refusal::Word, !is_word(ln1))])?;
+    refuse(&[
+        (Refusal::Word, !is_word(ln0)),
+        (Refusal::Word, !is_word(ln1)),
+    ])?;
     Ok(line_of(raster, [ln0, ln1]).unwrap_or(0))
 }
 

@@ -19,10 +19,17 @@ pub struct Vector {
 }
 
 fn vector(request: &[u32], answer: &[u32]) -> Vector {
-    Vector { request: request.to_vec(), answer: answer.to_vec() }
+    Vector {
+        request: request.to_vec(),
+        answer: answer.to_vec(),
+    }
 }
 
-pub fn all() -> Vec<Vector> {
+pub fn requests() -> impl Iterator<Item = Vec<u32>> {
+    all().into_iter().map(|vector| vector.request)
+}
+
+fn all() -> Vec<Vector> {
     let groups = [
         timing_codes(),
         line_numbers(),
@@ -53,7 +60,10 @@ fn timing_codes() -> Vec<Vector> {
         .zip(words)
         .flat_map(|(fvh, word)| {
             let (f, v, h) = (fvh >> 2 & 1, fvh >> 1 & 1, fvh & 1);
-            [vector(&[XYZ, f, v, h], &[word]), vector(&[READ_XYZ, word], &[0, 1, f, v, h])]
+            [
+                vector(&[XYZ, f, v, h], &[word]),
+                vector(&[READ_XYZ, word], &[0, 1, f, v, h]),
+            ]
         })
         .collect()
 }
@@ -63,7 +73,10 @@ fn line_numbers() -> Vec<Vector> {
     [(1, 0x204, 0x200), (1125, 0x194, 0x220), (64, 0x100, 0x200)]
         .into_iter()
         .flat_map(|(line, ln0, ln1)| {
-            [vector(&[LINE_WORDS, 7, line], &[0, ln0, ln1]), vector(&[READ_LINE, 7, ln0, ln1], &[0, line])]
+            [
+                vector(&[LINE_WORDS, 7, line], &[0, ln0, ln1]),
+                vector(&[READ_LINE, 7, ln0, ln1], &[0, line]),
+            ]
         })
         .collect()
 }
@@ -72,7 +85,10 @@ fn line_numbers() -> Vec<Vector> {
 fn cable() -> Vec<Vector> {
     vec![
         vector(&[SCRAMBLE, 0, 1, 0x001, 1, 0], &[0, 0x21f, 1, 0x21f]),
-        vector(&[UNSCRAMBLE, 0, 2, 0x001, 0x000, 2, 0, 0], &[0, 0x000, 2, 0x263, 0x001]),
+        vector(
+            &[UNSCRAMBLE, 0, 2, 0x001, 0x000, 2, 0, 0],
+            &[0, 0x000, 2, 0x263, 0x001],
+        ),
         vector(&[UNSCRAMBLE, 0x001, 1, 0x000, 1, 0], &[0, 0x000, 1, 0x001]),
     ]
 }
@@ -151,7 +167,10 @@ fn rasters() -> Vec<Vector> {
     let mut vectors: Vec<Vector> = ROWS
         .iter()
         .map(|&[code, _, active, rows, kind, hanc]| {
-            vector(&[RASTER_ROW, code], &[0, code, active + hanc + 12, active, rows, kind])
+            vector(
+                &[RASTER_ROW, code],
+                &[0, code, active + hanc + 12, active, rows, kind],
+            )
         })
         .collect();
     vectors.push(vector(&[RASTER_ROW, 0], &[0, 7, 2640, 1920, 1125, 1]));
@@ -161,7 +180,9 @@ fn rasters() -> Vec<Vector> {
 
 fn named_rasters() -> Vec<Vector> {
     ROWS.iter()
-        .map(|&[code, total, active, rows, kind, _]| vector(&[NAME_RASTER, total, active, rows, kind], &[code]))
+        .map(|&[code, total, active, rows, kind, _]| {
+            vector(&[NAME_RASTER, total, active, rows, kind], &[code])
+        })
         .collect()
 }
 
@@ -193,25 +214,29 @@ fn unnamed_rasters() -> Vec<Vector> {
     ];
     counts
         .into_iter()
-        .flat_map(|[total, active, rows]| [0, 1].map(|kind| vector(&[NAME_RASTER, total, active, rows, kind], &[0])))
+        .flat_map(|[total, active, rows]| {
+            [0, 1].map(|kind| vector(&[NAME_RASTER, total, active, rows, kind], &[0]))
+        })
         .collect()
 }
 
 /// The timing figures' first and last picture lines (002:67 and 002:69 for 750 rows, 002:68 and 002:70 for two fields,
 /// 002:71-73 for 1125 progressive), and F's change at 564, which no data sheet prints, each with its neighbour.
 fn picture_lines() -> Vec<Vector> {
-    let progressive_750 = [(1, 1), (25, 1), (26, 0), (745, 0), (746, 1), (750, 1)];
-    let progressive_1125 = [(1, 1), (41, 1), (42, 0), (1121, 0), (1122, 1), (1125, 1)];
-    let first_field = [(1, 1), (20, 1), (21, 0), (560, 0), (561, 1), (563, 1)];
-    let second_field = [(564, 1), (583, 1), (584, 0), (1123, 0), (1124, 1), (1125, 1)];
-    let two_fields = 6..=8;
-    (1..=5)
-        .map(|code| (code, progressive_750, 0))
-        .chain((9..=11).map(|code| (code, progressive_1125, 0)))
-        .chain(two_fields.clone().map(|code| (code, first_field, 0)))
-        .chain(two_fields.map(|code| (code, second_field, 1)))
-        .flat_map(|(code, lines, f)| lines.map(|(line, v)| vector(&[V_AND_F, code, line], &[0, v, f])))
-        .collect()
+    let fields = [
+        (1..=5, [1, 25, 26, 745, 746, 750], 0),
+        (9..=11, [1, 41, 42, 1121, 1122, 1125], 0),
+        (6..=8, [1, 20, 21, 560, 561, 563], 0),
+        (6..=8, [564, 583, 584, 1123, 1124, 1125], 1),
+    ];
+    let mut vectors = Vec::new();
+    for (codes, lines, f) in fields {
+        for code in codes {
+            let lines = lines.into_iter().zip([1, 1, 0, 0, 1, 1]);
+            vectors.extend(lines.map(|(line, v)| vector(&[V_AND_F, code, line], &[0, v, f])));
+        }
+    }
+    vectors
 }
 
 #[cfg(test)]
@@ -223,14 +248,8 @@ mod tests {
     fn every_answer_is_the_published_one() {
         for vector in all() {
             let request = format_line(&vector.request);
-            assert_eq!(answer(&request), Ok(format_line(&vector.answer)), "{request}");
-        }
-    }
-
-    #[test]
-    fn hanc_lengths_agree_with_the_rows() {
-        for [_, total, active, _, _, hanc] in ROWS {
-            assert_eq!(hanc, total - active - 12);
+            let published = format_line(&vector.answer);
+            assert_eq!(answer(&request), Ok(published), "{request}");
         }
     }
 }

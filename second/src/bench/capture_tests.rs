@@ -41,9 +41,10 @@ fn every_capture_prints_its_lines() {
 
 #[test]
 fn frames_pass() {
-    for (code, seed, line) in
-        [(0, 1, " raster 7 rows 1125 faults 0 PASS\n"), (1, 2, " raster 1 rows 750 faults 0 PASS\n")]
-    {
+    for (code, seed, line) in [
+        (0, 1, " raster 7 rows 1125 faults 0 PASS\n"),
+        (1, 2, " raster 1 rows 750 faults 0 PASS\n"),
+    ] {
         let file = frames(code, 1, seed).expect("there is such a raster");
         let printed = printed(&*file);
         assert!(printed.ends_with(line), "{printed}");

@@ -23,7 +23,13 @@ pub enum Outcome {
 impl Outcome {
     /// "A row counts once its CRC could be judged."
     fn counts(&self) -> bool {
-        matches!(self, Self::Judged { crc_judged: true, .. })
+        matches!(
+            self,
+            Self::Judged {
+                crc_judged: true,
+                ..
+            }
+        )
     }
 
     /// "One fault each: a judged row with any flag; an EAV at another distance; the four pairs after the T-th not an EAV; a

@@ -20,7 +20,8 @@ fn assert_refused(bytes: &[u8], number: u32) {
     let good = job(&[]).bytes();
     let refused = format!("bad file {number}\n");
     assert_eq!(printed(bytes), refused, "{bytes:x?}");
-    assert_eq!(printed(&*[&good, bytes].concat()), A17.to_string() + &refused);
+    let after_good = printed(&*[&good, bytes].concat());
+    assert_eq!(after_good, A17.to_string() + &refused);
 }
 
 /// The same for bytes that are refused before their end.
@@ -89,36 +90,6 @@ fn tag_bytes_are_21_to_7e() {
     }
 }
 
-/// "options not two bytes", whatever raster and wipe are.
-#[test]
-fn options_have_two_bytes() {
-    for count in [0, 1, 3, 4, 0x102, 0x0200_0000, HUGE] {
-        for options in [[1, 0], [12, 0], [1, 2], [12, 2]] {
-            let mut job = job(&[]);
-            job.options = options.to_vec();
-            assert_refused_early(&job.bytes_with([3, count, 0]), 9);
-            job.options.resize(count.min(8) as usize, 0);
-            assert_refused_early(&job.bytes_with([3, count, 0]), 9);
-        }
-    }
-}
-
-/// "wipe not 0 or 1" is 9, "raster not 0..11" is 4, and 9 comes before 4.
-#[test]
-fn in_the_options_9_comes_before_4() {
-    for raster in 0..=0xff {
-        for wipe in [0, 1, 2, 3, 0x80, 0xff] {
-            let mut job = job(&[]);
-            job.options = vec![raster, wipe];
-            match (raster, wipe) {
-                (_, 2..) => assert_refused_early(&job.bytes(), 9),
-                (12.., _) => assert_refused_early(&job.bytes(), 4),
-                _ => assert!(printed(&*job.bytes()).ends_with("NO SIGNAL\n")),
-            }
-        }
-    }
-}
-
 /// "word 3FF passes, 400 gives 3", at every place, also beyond the words that are read at once.
 #[test]
 fn words_above_3ff_are_3() {
@@ -134,40 +105,14 @@ fn words_above_3ff_are_3() {
     }
 }
 
-/// "It reports the fault met first in reading": a bad word was met before the input's end, but half a word is none.
-#[test]
-fn a_bad_word_before_a_cut_is_3_and_after_it_9() {
-    for count in [1, 2, PART, PART + 1] {
-        let mut words = vec![0x155; count];
-        words.push(0x400);
-        words.push(0x155);
-        let bytes = job(&words).bytes();
-        let after_bad = bytes.len() - 2;
-        assert_refused(&bytes[..after_bad + 1], 3);
-        assert_refused(&bytes[..after_bad], 3);
-        assert_refused(&bytes[..after_bad - 1], 9);
-        assert_refused(&bytes[..after_bad - 2], 9);
-        assert_refused(&bytes[..after_bad - 3], 9);
-    }
-}
-
-/// The first fault in the order of the file, not of the numbers.
-#[test]
-fn of_two_sections_the_first_decides() {
-    let mut bad_raster = job(&[0x400]);
-    bad_raster.options = vec![12, 0];
-    assert_refused_early(&bad_raster.bytes(), 4);
-    let bad_tag = job(&[]).bytes_with([0, 2, 0]);
-    assert_refused(&[job(&[0x400]).bytes(), bad_tag].concat(), 3);
-    let cut = bad_raster.bytes();
-    assert_refused(&cut[..cut.len() - 1], 4);
-}
-
 /// 9, or at a job's end nothing more.
 #[test]
 fn a_file_cut_at_any_byte() {
     let file = cuts::file();
-    let lines = ["CUT-1 raster 1 rows 0 faults 0 SHORT\n", "CUT-2 raster 7 rows 0 faults 1 FAIL\n"];
+    let lines = [
+        "CUT-1 raster 1 rows 0 faults 0 SHORT\n",
+        "CUT-2 raster 7 rows 0 faults 1 FAIL\n",
+    ];
     let second = file.windows(5).position(|bytes| bytes == b"CUT-2");
     let jobs = [second.expect("its tag is there") - 4, file.len()];
     for end in 0..=file.len() {

@@ -4,10 +4,10 @@ use super::coverage::small_jobs;
 use super::module::report;
 use super::places::{CODE, PAIR};
 use crate::generate::camera::Camera;
-use crate::generate::signals::{pair_bits, scrambled_words, whole_words};
+use crate::generate::signals::{code_bits, overlay, scrambled_words, whole_words};
 use crate::raster::{raster_of, Raster};
 use crate::session::{Report, Session};
-use crate::timing::{xyz, SYNC_WORDS};
+use crate::timing::xyz;
 use crate::words::WORD_BITS;
 
 /// The report of the session that is fed the words in parts.
@@ -50,11 +50,7 @@ fn two_rows() -> Vec<bool> {
 
 /// Lays a code over the bits from a place on: an EAV's, whose XYZ ends in four ones, or an SAV's.
 fn lay_code(bits: &mut [bool], place: usize, h: bool) {
-    let [first, second, third] = SYNC_WORDS;
-    let code = [first, second, third, xyz(true, true, h)].map(|word| pair_bits([word; 2]));
-    for (held, bit) in bits.iter_mut().skip(place).zip(code.concat()) {
-        *held = bit;
-    }
+    overlay(bits, place, &code_bits([xyz(true, true, h); 2]));
 }
 
 fn assert_same_of_bits(bits: &[bool]) {

@@ -15,11 +15,13 @@ pub struct Budget {
 
 impl Budget {
     pub fn to_shrink() -> Self {
-        Self { runs: 0, left: MOST_RUNS }
+        let (runs, left) = (0, MOST_RUNS);
+        Self { runs, left }
     }
 
     pub fn endless() -> Self {
-        Self { runs: 0, left: usize::MAX }
+        let (runs, left) = (0, usize::MAX);
+        Self { runs, left }
     }
 
     /// For one run on so many bytes.
@@ -37,10 +39,7 @@ impl Budget {
         let runs = self.runs;
         match ended {
             Ok(()) => format!("shrunk in {runs} runs"),
-            Err(Failure::Message(text)) => format!("shrunk in {runs} runs, not to the end: {text}"),
-            Err(Failure::Output(error)) => {
-                format!("shrunk in {runs} runs, not to the end: {error}")
-            }
+            Err(failure) => format!("shrunk in {runs} runs, not to the end: {failure}"),
         }
     }
 }

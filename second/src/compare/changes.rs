@@ -1,8 +1,6 @@
 //! Smaller numbers for one part of what is put. Places and ranges are of its numbers.
 
 use super::parts::{Kind, Parts, Piece};
-use crate::arguments::Arguments;
-use crate::requests::format_line;
 use std::ops::Range;
 
 pub type Numbers = Vec<u32>;
@@ -13,7 +11,9 @@ const CARRY: Range<usize> = 10..13;
 
 /// The number, its half, its quarter .. and 1: sizes of parts, coarse before fine.
 pub fn halvings(number: usize) -> impl Iterator<Item = usize> {
-    (0..usize::BITS).map(move |times| number >> times).take_while(|&part| part > 0)
+    (0..usize::BITS)
+        .map(move |times| number >> times)
+        .take_while(|&part| part > 0)
 }
 
 pub fn without(piece: &Piece, range: Range<usize>) -> Numbers {
@@ -73,8 +73,7 @@ fn simpler_sessions(piece: &Piece) -> Vec<Numbers> {
     begun[..2].copy_from_slice(&piece.numbers[..2]);
     let mut without_carry = piece.numbers.clone();
     without_carry[CARRY].fill(0);
-    let sessions = [none, begun, without_carry].into_iter();
-    sessions.filter(|after| may_be_sent(piece, after)).collect()
+    vec![none, begun, without_carry]
 }
 
 /// The file without one of its jobs, or with fewer words, a short tag or plain options in one; their counts stay right.
@@ -101,11 +100,13 @@ fn without_ends(piece: &Piece) -> Vec<Numbers> {
     ends.map(|end| without(piece, end)).collect()
 }
 
-/// One number becomes 0, or is less by a half, a quarter .. and one.
+/// One number becomes 0, or is less by a half, a quarter .. and one. "A session in range that is handed in is one that a run
+/// can reach but for its line, carry and counts": so its other numbers stay.
 pub fn lessened(piece: &Piece, place: usize) -> Vec<Numbers> {
-    let Some(&number) = piece.numbers.get(place) else {
+    if piece.kind == Kind::Session && place < LINE {
         return Vec::new();
-    };
+    }
+    let number = piece.numbers[place];
     let parts = (1..u32::BITS).map(|halvings| number >> halvings);
     let less = parts.take_while(|&part| part > 0).map(|part| number - part);
     let changed = std::iter::once(0).chain(less).map(|number| {
@@ -113,26 +114,12 @@ pub fn lessened(piece: &Piece, place: usize) -> Vec<Numbers> {
         numbers[place] = number;
         numbers
     });
-    changed.filter(|after| may_be_sent(piece, after)).collect()
+    changed.collect()
 }
 
 /// The chunk at the end of a part may be shorter.
 fn within(piece: &Piece, range: Range<usize>) -> Range<usize> {
     range.start..range.end.min(piece.numbers.len())
-}
-
-/// "A session in range that is handed in is one that a run can reach but for its line, carry and counts": such a one keeps
-/// the numbers before its line, or has none of them yet. "Sessions out of range are any."
-fn may_be_sent(before: &Piece, after: &[u32]) -> bool {
-    let keeps = is_in_range(&before.numbers) && after.starts_with(&before.numbers[..LINE]);
-    let has_just_begun = || after[2..LINE].iter().all(|&number| number == 0);
-    before.kind != Kind::Session || keeps || has_just_begun() || !is_in_range(after)
-}
-
-fn is_in_range(session: &[u32]) -> bool {
-    let arguments = Arguments::parse(&format_line(session));
-    let session = arguments.and_then(|mut arguments| arguments.session());
-    session.is_ok_and(|session| session.in_range())
 }
 
 #[cfg(test)]
@@ -155,19 +142,5 @@ mod tests {
         assert_eq!(melted(&twos, 0..6), [[11, 1, 2], [11, 3, 4]]);
         assert!(melted(&piece(Kind::List, &[1, 2]), 0..2).is_empty());
         assert_eq!(cleared(&piece(Kind::List, &[1, 2]), 0..1), [0, 2]);
-    }
-
-    /// Open, of raster 1, with a history; then one that is out of range by its line.
-    #[test]
-    fn sessions_in_range_stay_reachable() {
-        let mut open = [1, 1, 0x155, 9, 0, 3, 1, 0, 0, 700, 1, 5, 6, 7, 8];
-        let history_and_line = |session: &[u32]| {
-            let session = piece(Kind::Session, session);
-            [2, 9].map(|place| lessened(&session, place).len())
-        };
-        assert_eq!(history_and_line(&open), [0, 10]);
-        assert_eq!(simpler(&piece(Kind::Session, &open)).len(), 3);
-        open[9] = 751;
-        assert_eq!(history_and_line(&open), [9, 1]);
     }
 }

@@ -4,15 +4,16 @@ use super::budget::Budget;
 use super::command::Command;
 use super::parts::Parts;
 use super::shrinking::Shrinking;
-use crate::bench::bench;
-use crate::Failure;
+use crate::bench::printed;
+use crate::{made_file, Failure};
+use std::env::temp_dir;
 use std::fs;
 use std::io::{Read, Write};
+use std::process;
 use std::thread::{self, ScopedJoinHandle};
 
-/// Of a longer file the report has only the size; the bytes go to a file of this name.
+/// Of a longer file the report has only the size; the bytes go to a file.
 const MOST_SHOWN: usize = 4096;
-const WRITTEN: &str = "difference.bench";
 
 /// So many bytes more than this program prints are read of what the command prints.
 const MORE: usize = 256;
@@ -21,15 +22,22 @@ const MORE: usize = 256;
 const AT_ONCE: usize = 2;
 
 /// How many files give the same, which are all of them. A file has the name that `second` makes it by.
-pub fn compare(mut files: impl Iterator<Item = (String, Vec<u8>)>, command: &Command) -> Result<usize, Failure> {
+pub fn compare(
+    mut names: impl Iterator<Item = String>,
+    command: &Command,
+) -> Result<usize, Failure> {
     let mut alike = 0;
     loop {
-        let some: Vec<_> = files.by_ref().take(AT_ONCE).collect();
+        let some: Vec<String> = names.by_ref().take(AT_ONCE).collect();
         if some.is_empty() {
             return Ok(alike);
         }
-        let outputs = outputs_of_each(&some, command);
-        for ((name, bytes), outputs) in some.into_iter().zip(outputs) {
+        let made = some
+            .iter()
+            .map(|name| made_file(&name.split(' ').collect::<Vec<_>>()));
+        let files = made.collect::<Result<Vec<_>, _>>()?;
+        let outputs = outputs_of_each(&files, command);
+        for ((name, bytes), outputs) in some.into_iter().zip(files).zip(outputs) {
             let outputs = outputs?;
             if outputs.differ() {
                 return Err(Failure::Message(report(&name, bytes, outputs, command)));
@@ -40,9 +48,12 @@ pub fn compare(mut files: impl Iterator<Item = (String, Vec<u8>)>, command: &Com
 }
 
 /// What is printed for some files, all at once.
-fn outputs_of_each<'a>(files: &'a [(String, Vec<u8>)], command: &'a Command) -> Vec<Result<Outputs, Failure>> {
+fn outputs_of_each<'a>(
+    files: &'a [Vec<u8>],
+    command: &'a Command,
+) -> Vec<Result<Outputs, Failure>> {
     thread::scope(|scope| {
-        let start = |(_, bytes): &'a (String, Vec<u8>)| scope.spawn(move || Outputs::of(bytes, command));
+        let start = |bytes: &'a Vec<u8>| scope.spawn(move || Outputs::of(bytes, command));
         let runs: Vec<_> = files.iter().map(start).collect();
         let ended = |run: ScopedJoinHandle<'_, _>| run.join().expect("a run does not panic");
         runs.into_iter().map(ended).collect()
@@ -61,7 +72,7 @@ impl Outputs {
             |stdin| stdin.write_all(bytes),
             |stdout| {
                 // Worked out while the command works.
-                let own = own_lines(bytes);
+                let own = printed(bytes).into_bytes();
                 let mut theirs = Vec::new();
                 let most = own.len() + MORE;
                 let read = stdout.take(most as u64).read_to_end(&mut theirs);
@@ -69,8 +80,8 @@ impl Outputs {
                 Ok(Self { theirs, own })
             },
         )?;
-        // The paper says nothing of a status after `bad file`; but a signal is no way to end.
-        if status.code().is_none() {
+        // "status 0 whatever the file says"
+        if !status.success() {
             outputs.theirs.extend(format!("({status})").bytes());
         }
         Ok(outputs)
@@ -79,13 +90,6 @@ impl Outputs {
     fn differ(&self) -> bool {
         self.theirs != self.own
     }
-}
-
-/// What this program's `bench` prints.
-pub fn own_lines(bytes: &[u8]) -> Vec<u8> {
-    let mut lines = Vec::new();
-    bench(bytes, &mut lines).expect("a list takes all that is written");
-    lines
 }
 
 fn report(name: &str, bytes: Vec<u8>, outputs: Outputs, command: &Command) -> String {
@@ -120,7 +124,10 @@ fn shrink(smallest: &mut (Vec<u8>, Outputs), command: &Command) -> String {
 }
 
 /// By its jobs; of a file that is refused the jobs need not stay whole, so it is shrunk as bytes too.
-fn shrink_file<Error>(file: &[u8], differs: &mut impl FnMut(&[u8]) -> Result<bool, Error>) -> Result<(), Error> {
+fn shrink_file<Error>(
+    file: &[u8],
+    differs: &mut impl FnMut(&[u8]) -> Result<bool, Error>,
+) -> Result<(), Error> {
     let mut smallest = file.to_vec();
     loop {
         let before = smallest.clone();
@@ -147,7 +154,9 @@ fn shrink_file<Error>(file: &[u8], differs: &mut impl FnMut(&[u8]) -> Result<boo
 }
 
 fn is_bad(bytes: &[u8]) -> bool {
-    own_lines(bytes).split(|&byte| byte == b'\n').any(|line| line.starts_with(b"bad file "))
+    printed(bytes)
+        .lines()
+        .any(|line| line.starts_with("bad file "))
 }
 
 /// In hexadecimal, or where it is written to.
@@ -155,14 +164,18 @@ fn shown_file(bytes: &[u8]) -> String {
     if bytes.len() <= MOST_SHOWN {
         return bytes.iter().map(|byte| format!("{byte:02x}")).collect();
     }
-    match fs::write(WRITTEN, bytes) {
-        Ok(()) => format!("written to {WRITTEN}"),
-        Err(error) => format!("cannot be written to {WRITTEN}: {error}"),
+    // Other comparisons may be running.
+    let path = temp_dir().join(format!("difference-{}.bench", process::id()));
+    match fs::write(&path, bytes) {
+        Ok(()) => format!("written to {}", path.display()),
+        Err(error) => format!("cannot be written to {}: {error}", path.display()),
     }
 }
 
 /// Each line with its end, so that a missing one is seen.
 fn shown_lines(output: &[u8]) -> String {
     let lines = output.split_inclusive(|&byte| byte == b'\n');
-    lines.map(|line| format!("\n  {}", line.escape_ascii())).collect()
+    lines
+        .map(|line| format!("\n  {}", line.escape_ascii()))
+        .collect()
 }

@@ -51,7 +51,6 @@ pub struct Piece {
     pub numbers: Vec<u32>,
 }
 
-/// The sections of a job.
 const SECTIONS: [(Kind, usize); 3] = [(Kind::Tag, 1), (Kind::Options, 1), (Kind::Words, 2)];
 
 #[derive(Clone, Debug, PartialEq)]
@@ -101,7 +100,10 @@ impl Parts {
 
     /// A bench file of no jobs, only bytes.
     pub fn of_bytes(bytes: &[u8]) -> Self {
-        let rest = Piece { kind: Kind::Rest, numbers: bytes.iter().map(|&byte| byte.into()).collect() };
+        let rest = Piece {
+            kind: Kind::Rest,
+            numbers: bytes.iter().map(|&byte| byte.into()).collect(),
+        };
         let (function, pieces) = (None, vec![rest]);
         Self { function, pieces }
     }
@@ -137,7 +139,6 @@ impl Parts {
         parts
     }
 
-    /// How many jobs a bench file has.
     pub fn jobs(&self) -> usize {
         let tags = self.pieces.iter().filter(|piece| piece.kind == Kind::Tag);
         tags.count()
@@ -146,13 +147,16 @@ impl Parts {
     pub fn without_jobs(&self, jobs: Range<usize>) -> Self {
         let mut parts = self.clone();
         let sections = SECTIONS.len();
-        parts.pieces.drain(sections * jobs.start..sections * jobs.end);
+        parts
+            .pieces
+            .drain(sections * jobs.start..sections * jobs.end);
         parts
     }
 
     /// The feeds of a module cannot take more words than there are.
     fn mend_lengths(&mut self) {
-        let (Some(MODULE), [_, lengths, _, twos, list, ..]) = (self.function, &mut self.pieces[..]) else {
+        let (Some(MODULE), [_, lengths, _, twos, list, ..]) = (self.function, &mut self.pieces[..])
+        else {
             return;
         };
         let times = twos.numbers.chunks(3).map(|run| run[0] as usize);
@@ -172,7 +176,11 @@ fn first_job(bytes: &[u8]) -> Option<(Vec<Piece>, &[u8])> {
         let (count, after) = left.split_first_chunk()?;
         let count = u32::from_le_bytes(*count) as usize;
         let (section, after) = after.split_at_checked(count.checked_mul(width)?)?;
-        let number = |bytes: &[u8]| bytes.iter().rfold(0, |high, &low| high << 8 | u32::from(low));
+        let number = |bytes: &[u8]| {
+            bytes
+                .iter()
+                .rfold(0, |high, &low| high << 8 | u32::from(low))
+        };
         let numbers = section.chunks(width).map(number).collect();
         pieces.push(Piece { kind, numbers });
         left = after;
@@ -221,24 +229,14 @@ fn arguments(function: u32) -> Option<&'static [Kind]> {
 #[cfg(test)]
 mod tests {
     use super::*;
-    use crate::generate::{files::file, Generator};
+    use crate::generate::{files::file, requests};
     use crate::vectors;
 
     #[test]
     fn every_request_is_put_together_again() {
-        let mut generator = Generator::new(9);
-        let requests = (0..3000).map(|_| generator.request());
-        let vectors = vectors::all().into_iter().map(|vector| vector.request);
-        for request in requests.chain(vectors) {
+        for request in requests(9, 3000).chain(vectors::requests()) {
             let parts = Parts::of_request(&request).expect("it is a request");
             assert!(parts.put() == format_line(&request).into_bytes());
-        }
-    }
-
-    #[test]
-    fn what_is_no_request_has_no_parts() {
-        for request in [&[][..], &[0x99, 1], &[FIND_SYNC, 2, 1], &[XYZ, 0, 0, 0, 0]] {
-            assert_eq!(Parts::of_request(request), None);
         }
     }
 

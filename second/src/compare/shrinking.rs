@@ -17,11 +17,8 @@ pub struct Shrinking<Find> {
     tried: HashSet<u64>,
 }
 
-/// Something smaller, and the place in the part where it is.
-struct Candidate {
-    place: usize,
-    parts: Parts,
-}
+/// The place in the part where it is smaller, and all parts.
+type Candidate = (usize, Parts);
 
 impl<Error, Find> Shrinking<Find>
 where
@@ -66,36 +63,23 @@ where
         Ok(())
     }
 
-    /// Fewer elements: all, halves, quarters .. single ones, at the ends and then anywhere.
+    /// Fewer elements: all, halves, quarters .. single ones.
     fn shorten(&mut self, index: usize) -> Result<(), Error> {
         self.pass(index, usize::MAX, |piece, _| simpler(piece))?;
         let piece = &self.parts.pieces[index];
         let Some(width) = piece.kind.width().filter(|_| !is_plain(piece)) else {
             return Ok(());
         };
-        self.drop_end(index, |_, size| 0..size * width)?;
-        self.drop_end(index, |length, size| length - size * width..length)?;
         for elements in halvings(self.parts.pieces[index].numbers.len() / width) {
             let size = elements * width;
-            self.pass(index, size, |piece, place| vec![without(piece, place..place + size)])?;
+            self.pass(index, size, |piece, place| {
+                vec![without(piece, place..place + size)]
+            })?;
             // No two neighbours are parted by the steps, and two are the fewest that can melt.
             let (step, size) = (elements.div_ceil(2) * width, elements.max(2) * width);
-            self.pass(index, step, |piece, place| melted(piece, place..place + size))?;
-        }
-        Ok(())
-    }
-
-    /// Drops from one end as much as can be, given by how many numbers there are and how many elements are dropped.
-    fn drop_end(&mut self, index: usize, end: impl Fn(usize, usize) -> std::ops::Range<usize>) -> Result<(), Error> {
-        let width = self.parts.pieces[index].kind.width().unwrap_or(1);
-        let mut size = self.parts.pieces[index].numbers.len() / width;
-        while size > 0 {
-            let piece = &self.parts.pieces[index];
-            let shorter = without(piece, end(piece.numbers.len(), size));
-            if !self.keeps(self.parts.with(index, shorter))? {
-                size /= 2;
-            }
-            size = size.min(self.parts.pieces[index].numbers.len() / width);
+            self.pass(index, step, |piece, place| {
+                melted(piece, place..place + size)
+            })?;
         }
         Ok(())
     }
@@ -107,7 +91,9 @@ where
         if let Some(width) = kind.width().filter(|_| !is_plain(piece)) {
             for elements in halvings(piece.numbers.len() / width) {
                 let size = elements * width;
-                self.pass(index, size, |piece, place| vec![cleared(piece, place..place + size)])?;
+                self.pass(index, size, |piece, place| {
+                    vec![cleared(piece, place..place + size)]
+                })?;
             }
         }
         if [Kind::Tag, Kind::Options, Kind::Words, Kind::Rest].contains(&kind) {
@@ -131,8 +117,7 @@ where
             }
             place = match (self.find)(&puts)? {
                 Some(found) => {
-                    let Candidate { place, parts } = candidates.swap_remove(found);
-                    self.parts = parts;
+                    (place, self.parts) = candidates.swap_remove(found);
                     place
                 }
                 None => next,
@@ -156,7 +141,7 @@ where
                 let put = parts.put();
                 if self.is_new(&put) && parts.may_be_put() {
                     bytes += put.len();
-                    candidates.push(Candidate { place, parts });
+                    candidates.push((place, parts));
                     puts.push(put);
                 }
             }
@@ -188,7 +173,7 @@ where
 mod tests {
     use super::*;
     use crate::functions::*;
-    use crate::generate::Generator;
+    use crate::generate::requests;
     use crate::job::Job;
     use crate::requests::format_line;
     use std::convert::Infallible;
@@ -219,7 +204,9 @@ mod tests {
     /// Whether the argument has these numbers in this order, whatever is between them.
     fn has(parts: &Parts, index: usize, wanted: &[u32]) -> bool {
         let mut numbers = parts.pieces[index].numbers.iter();
-        wanted.iter().all(|number| numbers.any(|other| other == number))
+        wanted
+            .iter()
+            .all(|number| numbers.any(|other| other == number))
     }
 
     #[test]
@@ -240,7 +227,9 @@ mod tests {
             let runs = parts.pieces[index].numbers.chunks(2);
             runs.map(|run| run[0]).sum()
         };
-        let fits = |parts: &Parts| has(parts, 3, &[555]) && [3, 4].iter().all(|&index| total(parts, index) == 1650);
+        let fits = |parts: &Parts| {
+            has(parts, 3, &[555]) && [3, 4].iter().all(|&index| total(parts, index) == 1650)
+        };
         let expected = [CHECK_ROW, 0, 0, 0, 0, 0, 1, 1650, 555, 1, 1650, 0];
         assert_smallest(&request, fits, &expected);
     }
@@ -249,11 +238,7 @@ mod tests {
         Job::new(tag, raster, false, words.to_vec()).bytes()
     }
 
-    /// The smallest file of which a job has these words in this order, and how many were put.
-    fn smallest_with(bytes: &[u8], wanted: &[u32]) -> (Parts, usize) {
-        smallest(Parts::of_file(bytes), |put| has_job_with(put, wanted))
-    }
-
+    /// Whether a job of the file has these words in this order.
     fn has_job_with(bytes: &[u8], wanted: &[u32]) -> bool {
         let file = Parts::of_file(bytes);
         (0..file.jobs()).any(|job| has(&file, 3 * job + 2, wanted))
@@ -262,8 +247,9 @@ mod tests {
     #[test]
     fn jobs_and_words_anywhere_are_dropped() {
         let words: Vec<u16> = (0..1000).collect();
-        let jobs = [job("B02", 0, &[1, 2, 3]), job("B03", 4, &words), job("B04", 7, &words)];
-        let (file, tried) = smallest_with(&jobs.concat(), &[100, 900]);
+        let jobs = [job("B02", 0, &[1, 2, 3]), job("B03", 4, &words)];
+        let file = [jobs.concat(), job("B04", 7, &words)].concat();
+        let (file, tried) = smallest(Parts::of_file(&file), |put| has_job_with(put, &[100, 900]));
         // Three counts, the tag `A`, the options and two words are left.
         assert_eq!((file.jobs(), file.put().len()), (1, 12 + 1 + 2 + 4));
         assert!(tried < 200, "{tried}");
@@ -291,9 +277,8 @@ mod tests {
     /// Where all differ hardly anything is left.
     #[test]
     fn every_request_gets_small() {
-        let mut generator = Generator::new(77);
-        for _ in 0..400 {
-            let parts = Parts::of_request(&generator.request()).expect("it is a request");
+        for request in requests(77, 400) {
+            let parts = Parts::of_request(&request).expect("it is a request");
             let (found, _) = smallest(parts, |_| true);
             let numbers = || found.pieces.iter().flat_map(|piece| &piece.numbers);
             assert!(numbers().all(|&number| number == 0), "{found:x?}");
@@ -311,11 +296,7 @@ mod tests {
             left -= 1;
             last = puts[0].len();
             let found = puts.iter().position(|put| put.len() > 100);
-            if left > 0 {
-                Ok(found)
-            } else {
-                Err("enough")
-            }
+            (left > 0).then_some(found).ok_or("enough")
         };
         let ended = Shrinking::of(Parts::of_file(&file), find).shrink();
         assert_eq!(ended, Err("enough"));

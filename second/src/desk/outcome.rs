@@ -11,7 +11,6 @@ pub enum Outcome {
     Refused(u32),
 }
 
-/// A job that is done.
 #[derive(Clone, Debug, Default, PartialEq, Eq)]
 pub struct Done {
     pub tag: Vec<u8>,
@@ -42,7 +41,9 @@ impl Outcome {
     pub fn line(&self) -> Vec<u8> {
         match self {
             Self::Nothing => Vec::new(),
-            Self::Done(job) => line::of_job(&job.tag, [job.raster, job.rows, job.faults], job.verdict),
+            Self::Done(job) => {
+                line::of_job(&job.tag, [job.raster, job.rows, job.faults], job.verdict)
+            }
             Self::Refused(number) => line::of_refusal(*number),
         }
     }

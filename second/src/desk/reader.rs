@@ -6,7 +6,6 @@ use crate::refusal::{refuse, Refusal};
 use crate::words::is_word;
 use std::mem::take;
 
-/// What is read next.
 #[derive(Clone, Copy, Debug, Default, PartialEq, Eq)]
 pub enum Stage {
     #[default]
@@ -29,7 +28,6 @@ pub struct Reader {
     pub count: Vec<u8>,
     /// How many bytes of the tag are left, or how many words, the one being read among them.
     pub left: u32,
-    /// The low byte of a word.
     pub low: u8,
     pub raster: u8,
     pub wipe: bool,
@@ -53,7 +51,7 @@ pub struct Ended {
 }
 
 impl Reader {
-    /// Whether words are read: "its options are read, and its job has not ended".
+    /// Whether words are read: "the options of a job are read, and the job has not ended".
     pub fn is_in_words(&self) -> bool {
         matches!(self.stage, Stage::WordCount | Stage::Low | Stage::High)
     }
@@ -75,7 +73,10 @@ impl Reader {
             Ok(piece) => (piece, None),
             Err(refusal) => {
                 let stage = Stage::Stopped;
-                *self = Self { stage, ..Self::default() };
+                *self = Self {
+                    stage,
+                    ..Self::default()
+                };
                 (Piece::Refused(refusal), None)
             }
         }
@@ -147,7 +148,10 @@ impl Reader {
 
     /// "Order where several apply: [..] 9, 4": "wipe not 0 or 1" before "raster not 0..11".
     fn read_wipe(&mut self, byte: u8) -> Result<Piece, Refusal> {
-        refuse(&[(Refusal::File, byte > 1), (Refusal::Raster, raster_of(self.raster.into()).is_err())])?;
+        refuse(&[
+            (Refusal::File, byte > 1),
+            (Refusal::Raster, raster_of(self.raster.into()).is_err()),
+        ])?;
         self.wipe = byte == 1;
         self.stage = Stage::WordCount;
         Ok(Piece::Options(self.raster))

@@ -22,8 +22,8 @@ pub fn file(number: usize) -> Option<Vec<u8>> {
             let nearly = [stretches(alignment), broken(alignment)].concat();
             [outside(alignment), nearly, codes(alignment)].concat()
         }
-        1 => row_ends(alignment, &WITH_A_PAIR),
-        2 => row_ends(alignment, &OTHERS),
+        1 => row_ends(alignment, true),
+        2 => row_ends(alignment, false),
         _ => return None,
     };
     let jobs = captures.into_iter().zip(1..);
@@ -72,7 +72,10 @@ fn raster(number: usize) -> u8 {
 fn stretches(alignment: usize) -> Vec<Capture> {
     let mut captures = Vec::new();
     for place in 0..PAIR_BITS {
-        for (ones, zeros) in ONES.iter().flat_map(|&ones| ZEROS.map(|zeros| (ones, zeros))) {
+        for (ones, zeros) in ONES
+            .iter()
+            .flat_map(|&ones| ZEROS.map(|zeros| (ones, zeros)))
+        {
             let (laid, more) = (stretch(ones, zeros), 1 + place % 3);
             let bits = laid_at(alignment, place, &laid, ones + zeros, more);
             captures.push((raster(captures.len()), bits));
@@ -96,7 +99,10 @@ fn broken(alignment: usize) -> Vec<Capture> {
 fn codes(alignment: usize) -> Vec<Capture> {
     let mut captures = Vec::new();
     for place in 0..PAIR_BITS {
-        for (h, more) in [false, true].into_iter().flat_map(|h| [0, 1, 2].map(|more| (h, more))) {
+        for (h, more) in [false, true]
+            .into_iter()
+            .flat_map(|h| [0, 1, 2].map(|more| (h, more)))
+        {
             let bits = laid_at(alignment, place, &code(h), SYNC_BITS - 1, more);
             captures.push((raster(captures.len()), bits));
         }
@@ -115,38 +121,22 @@ fn outside(alignment: usize) -> Vec<Capture> {
     captures.collect()
 }
 
-/// What follows a row.
-#[derive(Clone, Copy)]
-enum After {
-    /// An EAV, so many pairs of the row before.
-    Early(usize),
-    /// An EAV, so many pairs later.
-    Late(usize),
-    /// An EAV some bits early or late, at another alignment.
-    SomeBits,
-    SomeBitsLate,
-    NoEav,
-}
-
-const WITH_A_PAIR: [After; 3] = [After::Early(0), After::Early(1), After::Late(1)];
-const OTHERS: [After; 3] = [After::SomeBits, After::SomeBitsLate, After::NoEav];
-
-/// Two rows of raster 1, and each of these after them.
-fn row_ends(alignment: usize, ways: &[After]) -> Vec<Capture> {
+/// Two rows of raster 1, and after them EAVs that end with a pair of theirs, or a few bits off, and none.
+fn row_ends(alignment: usize, with_a_pair: bool) -> Vec<Capture> {
     let rows = two_rows(alignment);
-    let few = 1 + alignment * 7 % (PAIR_BITS - 1);
+    // An EAV so many bits early, or late.
     let with_eav = |less: usize, more: usize| {
         let sent = &rows[..rows.len() - less];
         [sent, &blanking(more), &code(true), &blanking(30)].concat()
     };
-    let captures = ways.iter().map(|after| match after {
-        After::Early(pairs) => with_eav(pairs * PAIR_BITS, 0),
-        After::Late(pairs) => with_eav(0, pairs * PAIR_BITS),
-        After::SomeBits => with_eav(few, 0),
-        After::SomeBitsLate => with_eav(0, few),
-        After::NoEav => [&rows[..], &blanking(6 * PAIR_BITS)].concat(),
-    });
-    captures.map(|bits| (1, bits)).collect()
+    let few = 1 + alignment * 7 % (PAIR_BITS - 1);
+    let captures = if with_a_pair {
+        [(0, 0), (PAIR_BITS, 0), (0, PAIR_BITS)].map(|(less, more)| with_eav(less, more))
+    } else {
+        let without = [&rows[..], &blanking(6 * PAIR_BITS)].concat();
+        [with_eav(few, 0), with_eav(0, few), without]
+    };
+    captures.map(|bits| (1, bits)).into()
 }
 
 /// Their words are all different, so that one at another place is a fault.

@@ -20,7 +20,11 @@ pub struct Camera {
 impl Camera {
     /// A camera of which nothing came before this line.
     pub fn new(code: u32, line: u32) -> Self {
-        Self { raster: raster_of(code).expect("the code is of the table"), line, carry: None }
+        Self {
+            raster: raster_of(code).expect("the code is of the table"),
+            line,
+            carry: None,
+        }
     }
 
     /// The bits of the next row.
@@ -43,7 +47,11 @@ impl Camera {
 
     /// What the next row is built for.
     pub fn head(&self) -> Head {
-        Head { code: self.raster.code, line: self.line, carry: self.carry }
+        Head {
+            code: self.raster.code,
+            line: self.line,
+            carry: self.carry,
+        }
     }
 }
 

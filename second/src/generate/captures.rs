@@ -8,8 +8,12 @@ use crate::words::WORD_BITS;
 
 type Maker = fn() -> Vec<Job>;
 
-const CAPTURES: [(&str, Maker); 4] =
-    [("dead-after-good", dead_after_good), ("damaged", damaged), ("bad-file", bad_file), ("full-frame", full_frame)];
+const CAPTURES: [(&str, Maker); 4] = [
+    ("dead-after-good", dead_after_good),
+    ("damaged", damaged),
+    ("bad-file", bad_file),
+    ("full-frame", full_frame),
+];
 
 pub fn names() -> [&'static str; 4] {
     CAPTURES.map(|(name, _)| name)
@@ -45,7 +49,10 @@ fn next_row(camera: &mut Camera, code: u32) -> Vec<bool> {
 fn dead_after_good() -> Vec<Job> {
     let good = good_rows(1, 7, 23, 8);
     let dead = vec![0x000; 8000];
-    vec![Job::new("CAM-0412", 1, false, good), Job::new("CAM-0413", 1, true, dead)]
+    vec![
+        Job::new("CAM-0412", 1, false, good),
+        Job::new("CAM-0413", 1, true, dead),
+    ]
 }
 
 /// Five rows of raster 1, three times: untouched, with one bit of the cable flipped, and with one word of it lost.
@@ -80,5 +87,8 @@ fn bad_file() -> Vec<Job> {
 fn full_frame() -> Vec<Job> {
     let frame = good_rows(7, 11, 1100, 1125 + 2);
     let dead = vec![0x3ff; 8000];
-    vec![Job::new("CAM-0440", 0, false, frame), Job::new("CAM-0441", 0, true, dead)]
+    vec![
+        Job::new("CAM-0440", 0, false, frame),
+        Job::new("CAM-0441", 0, true, dead),
+    ]
 }

@@ -21,27 +21,18 @@ const ASTRAY: usize = STRETCHES + 2;
 const OUTSIDE: usize = STRETCHES + 3;
 const KINDS: usize = STRETCHES + 4;
 
-/// Bits that are laid over others.
-struct Laid {
-    bits: Vec<bool>,
-    /// The place of the last bit of its sync or its zeros.
-    last: usize,
-}
-
-fn laid(random: &mut Random, kind: usize) -> Laid {
-    if kind >= STRETCHES {
-        let mut bits = signals::code(random);
-        if kind == BROKEN {
-            bits = signals::eav(random);
-            bits[random.place(SYNC_BITS)] ^= true;
-        }
-        let last = SYNC_BITS - 1;
-        return Laid { bits, last };
+/// Bits that are laid over others, and the place of the last bit of their sync or their zeros.
+fn laid(random: &mut Random, kind: usize) -> (Vec<bool>, usize) {
+    if kind < STRETCHES {
+        let (ones, zeros) = (ONES[kind % ONES.len()], ZEROS[kind / ONES.len()]);
+        return (signals::stretch(ones, zeros), ones + zeros);
     }
-    let (ones, zeros) = (ONES[kind % ONES.len()], ZEROS[kind / ONES.len()]);
-    let bits = signals::stretch(ones, zeros);
-    let last = ones + zeros;
-    Laid { bits, last }
+    let mut bits = signals::code(random);
+    if kind == BROKEN {
+        bits = signals::eav(random);
+        bits[random.place(SYNC_BITS)] ^= true;
+    }
+    (bits, SYNC_BITS - 1)
 }
 
 /// The feed whose turn it is.
@@ -64,8 +55,8 @@ pub fn any_feed(random: &mut Random) -> Feed {
 /// A feed of so many words, given by how many there must be for all of its sync or its zeros.
 fn feed_of(random: &mut Random, turn: usize, words: impl Fn(usize) -> usize) -> Feed {
     let (place, kind) = (turn % PAIR_BITS, turn / PAIR_BITS % KINDS);
-    let laid = laid(random, kind);
-    let least = laid.last + random.place(60);
+    let (laid, last) = laid(random, kind);
+    let least = last + random.place(60);
     // Words that are fed before, so that the feed may start amid what is laid.
     let any = random.place(least / WORD_BITS + 1);
     let cut = random.pick(&[0, 0, 0, any]) * WORD_BITS;
@@ -74,7 +65,7 @@ fn feed_of(random: &mut Random, turn: usize, words: impl Fn(usize) -> usize) -> 
     let length = cut + words(all) * WORD_BITS;
     let bit = row_bit(random, kind, end);
     let (numbers, mut bits) = calm(random, bit, length);
-    signals::overlay(&mut bits, end - laid.last, &laid.bits);
+    signals::overlay(&mut bits, end - last, &laid);
     fed(random, numbers, &bits, cut)
 }
 
@@ -122,5 +113,9 @@ fn fed(random: &mut Random, numbers: Numbers, bits: &[bool], cut: usize) -> Feed
     let total = sessions::raster(&numbers).total as usize;
     let mut buffers = [(); 2].map(|()| vec![random.short(0, 0xffff); total]);
     fill_buffers(random, &mut buffers, numbers.pairs as usize);
-    Feed { numbers, words: signals::whole_words(&bits[cut..]), buffers }
+    Feed {
+        numbers,
+        words: signals::whole_words(&bits[cut..]),
+        buffers,
+    }
 }

@@ -4,23 +4,23 @@ mod desks;
 mod places;
 mod refusals;
 mod rows;
+mod section_ends;
 mod sessions;
+mod walk;
 
-use super::Generator;
+use super::requests;
+use super::session_requests::Feed;
 use crate::arguments::Arguments;
 use crate::functions::*;
+use crate::gate::{REQUESTS_OF_A_SEED, REQUEST_SEEDS};
 use crate::requests::{answer, format_line};
-use crate::session::Numbers;
 use std::collections::BTreeMap;
 use std::fmt::Display;
 use std::sync::OnceLock;
 
-const SEEDS: u64 = 4;
-const COUNT: usize = 10_000;
 /// So many the request format's table has.
 const FUNCTIONS: usize = 25;
 
-/// A request and its answer.
 pub struct Asked {
     pub request: Vec<u32>,
     pub answer: Vec<u32>,
@@ -31,7 +31,10 @@ impl Asked {
         let answer = answer(&format_line(&request)).expect("requests are well formed");
         let numbers = answer.split(' ').map(|text| u32::from_str_radix(text, 16));
         let answer = numbers.collect::<Result<_, _>>();
-        Self { request, answer: answer.expect("answers are hexadecimal") }
+        Self {
+            request,
+            answer: answer.expect("answers are hexadecimal"),
+        }
     }
 
     /// The arguments, after so many numbers of them.
@@ -44,11 +47,7 @@ impl Asked {
 fn all() -> &'static [Asked] {
     static ALL: OnceLock<Vec<Asked>> = OnceLock::new();
     ALL.get_or_init(|| {
-        let generators = (1..=SEEDS).map(Generator::new);
-        let requests = generators.flat_map(|mut generator| {
-            let requests: Vec<Vec<u32>> = (0..COUNT).map(|_| generator.request()).collect();
-            requests
-        });
+        let requests = (1..=REQUEST_SEEDS).flat_map(|seed| requests(seed, REQUESTS_OF_A_SEED));
         requests.map(Asked::of).collect()
     })
 }
@@ -59,19 +58,22 @@ pub fn asked(functions: &'static [u32]) -> impl Iterator<Item = &'static Asked> 
     all.filter(|asked| functions.contains(&asked.request[0]))
 }
 
-/// What a feed takes.
-pub struct Feed {
-    pub numbers: Numbers,
-    pub words: Vec<u16>,
-    pub buffers: [Vec<u16>; 2],
+/// Those of them that are not refused.
+pub fn answered(functions: &'static [u32]) -> impl Iterator<Item = &'static Asked> {
+    asked(functions).filter(|asked| asked.answer[0] == 0)
 }
 
+/// What a feed takes, with the words as they are on the cable.
 pub fn feed(asked: &Asked) -> Feed {
     let mut arguments = asked.arguments(0);
     let numbers = arguments.session().expect("a session");
     let words = arguments.signal(numbers.history).expect("a signal");
     let buffers = [(); 2].map(|()| arguments.runs().expect("runs"));
-    Feed { numbers, words, buffers }
+    Feed {
+        numbers,
+        words,
+        buffers,
+    }
 }
 
 /// How often each sign comes.
@@ -89,9 +91,16 @@ impl Tally {
         *self.0.entry(sign).or_default() += 1;
     }
 
-    pub fn assert_come(&self, signs: impl IntoIterator<Item = impl Display>, times: u32) {
+    /// Each sign, which starts with what all of them start with, comes so many times.
+    pub fn assert_come(
+        &self,
+        start: &str,
+        signs: impl IntoIterator<Item = impl Display>,
+        times: u32,
+    ) {
         for sign in signs {
-            let come = self.0.get(&sign.to_string()).copied().unwrap_or(0);
+            let sign = format!("{start}{sign}");
+            let come = self.0.get(&sign).copied().unwrap_or(0);
             assert!(come >= times, "{sign} comes {come} times: {self:?}");
         }
     }
@@ -109,12 +118,11 @@ fn every_function_comes() {
 fn most_requests_are_of_sessions_rows_and_packets() {
     let third = all().len() / 3;
     assert!(asked(&[BEGIN, FEED, END, MODULE]).count() > third);
-    let rows = [FIND_PACKET, EXTRACT, CHECK_ROW, CORRECT_ROW, BUILD_ROW];
-    let of_rows = all().iter().filter(|asked| rows.contains(&asked.request[0]));
-    assert!(of_rows.count() + 1000 > third);
+    let of_rows = asked(&[FIND_PACKET, EXTRACT, CHECK_ROW, CORRECT_ROW, BUILD_ROW]);
+    assert!(of_rows.count() > third);
 }
 
-/// "all the other side can hold"; requests of rows are short.
+/// "A request has at most 20,000 numbers"; requests of rows are short.
 #[test]
 fn requests_keep_to_their_lengths() {
     for Asked { request, .. } in all() {

@@ -1,6 +1,6 @@
 //! Requests for the functions of a bench file.
 
-use super::desks::{buffers, lent, shorten, Lent};
+use super::desks::{buffers, lent, shorten};
 use super::files::{short_file, tag};
 use super::long_sections::{across, marked, CODE, FEW, RUN};
 use super::row_requests::both;
@@ -33,9 +33,9 @@ impl Generator {
     }
 
     pub(super) fn take(&mut self) -> Request {
-        let Lent { lengths, bytes, numbers, buffers } = lent(&mut self.random);
-        let taken = [list(&lengths), byte_list(&bytes)].concat();
-        request(&[&[TAKE], &taken, &numbers.list(), &both(&buffers)])
+        let lent = lent(&mut self.random);
+        let taken = [list(&lent.lengths), byte_list(&lent.bytes)].concat();
+        request(&[&[TAKE], &taken, &lent.numbers.list(), &both(&lent.buffers)])
     }
 
     pub(super) fn outcome_line(&mut self) -> Request {

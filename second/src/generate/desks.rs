@@ -20,7 +20,11 @@ pub struct Lent {
 }
 
 pub fn lent(random: &mut Random) -> Lent {
-    let mut lent = if random.bit() { in_a_job(random) } else { in_a_file(random) };
+    let mut lent = if random.bit() {
+        in_a_job(random)
+    } else {
+        in_a_file(random)
+    };
     if random.one_in(10) {
         shorten(random, &mut lent.buffers);
     }
@@ -31,11 +35,20 @@ pub fn lent(random: &mut Random) -> Lent {
 fn in_a_file(random: &mut Random) -> Lent {
     let bytes = short_file(random, 30);
     let options = 8 + bytes.first().copied().map_or(0, usize::from);
-    let places = [random.place(bytes.len() + 1), random.place(26), options + random.place(3)];
+    let places = [
+        random.place(bytes.len() + 1),
+        random.place(26),
+        options + random.place(3),
+    ];
     let place = random.pick(&places).min(bytes.len());
     let lengths = takes_to(random, &bytes, place);
     let (desk, _) = desk_after(&lengths, &bytes);
-    Lent { numbers: session(random, &desk, desk.numbers()), lengths, bytes, buffers: buffers(random) }
+    Lent {
+        numbers: session(random, &desk, desk.numbers()),
+        lengths,
+        bytes,
+        buffers: buffers(random),
+    }
 }
 
 /// This session where words are read, or one that is refused; else any at all.
@@ -65,7 +78,11 @@ fn takes_to(random: &mut Random, file: &[u8], place: usize) -> Vec<u16> {
 
 /// A session in the middle of a row, its words as a job's, which ends with them, before them or later.
 fn in_a_job(random: &mut Random) -> Lent {
-    let Feed { numbers, mut words, mut buffers } = feed_of_a_job(random);
+    let Feed {
+        numbers,
+        mut words,
+        mut buffers,
+    } = feed_of_a_job(random);
     words.truncate(2000);
     if random.one_in(20) {
         lengthen(random, &mut words);
@@ -81,7 +98,12 @@ fn in_a_job(random: &mut Random) -> Lent {
     }
     let lengths = takes_to(random, &bytes, place);
     let (desk, _) = desk_after(&lengths, &bytes);
-    Lent { numbers: session(random, &desk, numbers), lengths, bytes, buffers }
+    Lent {
+        numbers: session(random, &desk, numbers),
+        lengths,
+        bytes,
+        buffers,
+    }
 }
 
 /// The bytes of a job that ends with these words, before them or later, and the place from which on they are read with the
@@ -91,7 +113,11 @@ fn job_of(random: &mut Random, raster: u32, words: &[u16]) -> (Vec<u8>, usize) {
     let asked = if raster == 7 { 0 } else { raster };
     let options = [random.pick(&[raster, asked]) as u8, random.bit().into()];
     let before = vec![0x155; random.pick(&[0, 0, 0, 1, 2])];
-    let job = Job { tag: tag(random).into_bytes(), options: options.to_vec(), words: [&before[..], words].concat() };
+    let job = Job {
+        tag: tag(random).into_bytes(),
+        options: options.to_vec(),
+        words: [&before[..], words].concat(),
+    };
     let all = job.words.len() as u32;
     let any = random.between(before.len() as u32, all);
     let count = random.pick(&[all, all, all, all + 1, any, u32::MAX]);
@@ -100,8 +126,12 @@ fn job_of(random: &mut Random, raster: u32, words: &[u16]) -> (Vec<u8>, usize) {
     let start = bytes.len() - 2 * job.words.len();
     // From the options' end, amid the count, after it, or after a word's low byte.
     let amid = random.place(4);
-    let from = random.pick(&[start - 4, start - 4 + amid, start, start, start + 1, start + 1]);
-    let place = if before.is_empty() { from } else { start + 2 * before.len() + random.place(2) };
+    let from = start + random.pick(&[0, amid, 4, 4, 5, 5]) - 4;
+    let place = if before.is_empty() {
+        from
+    } else {
+        start + 2 * before.len() + random.place(2)
+    };
     if random.one_in(3) {
         bytes.extend(short_file(random, 10));
     }

@@ -44,7 +44,7 @@ const IN_TWO_JOBS: Kind = "one capture in two jobs";
 
 /// All kinds that come.
 pub fn kinds() -> Vec<Kind> {
-    let of_bad_jobs = bad_jobs::all().into_iter().map(|(kind, _)| kind);
+    let of_bad_jobs = bad_jobs::ALL.map(|(kind, _)| kind);
     let of_modules = modules::kinds().into_iter().chain([IN_TWO_JOBS]);
     of_modules.chain(of_bad_jobs).collect()
 }
@@ -84,7 +84,10 @@ impl Notes {
 /// The same seed, the same file.
 pub fn file(seed: u64) -> File {
     let random = &mut Random::new(seed);
-    let mut notes = Notes { kinds: Vec::new(), turn: seed };
+    let mut notes = Notes {
+        kinds: Vec::new(),
+        turn: seed,
+    };
     let jobs = jobs(random, &mut notes);
     let mut bytes: Vec<u8> = jobs.iter().flat_map(Job::bytes).collect();
     if !random.one_in(4) {
@@ -92,17 +95,20 @@ pub fn file(seed: u64) -> File {
         notes.turn = seed;
         bytes.extend(bad_end(random, most, &mut notes));
     }
-    File { bytes, kinds: notes.kinds }
+    File {
+        bytes,
+        kinds: notes.kinds,
+    }
 }
 
 /// A bad job of at most so many words, and perhaps another job.
 fn bad_end(random: &mut Random, most: usize, notes: &mut Notes) -> Vec<u8> {
     let job = rowless_job(random, most);
     let faults = match most {
-        SHORT.. => bad_jobs::all(),
-        _ => bad_jobs::of_few_words(),
+        SHORT.. => &bad_jobs::ALL,
+        _ => bad_jobs::OF_FEW_WORDS,
     };
-    let bad = bad_jobs::bad_job(random, job, &faults, notes);
+    let bad = bad_jobs::bad_job(random, job, faults, notes);
     let mut bytes = bad.bytes();
     // Of the jobs after it nothing is read.
     if !bad.is_cut() && random.bit() {
@@ -155,9 +161,16 @@ fn in_two(random: &mut Random, mut module: Module, notes: &mut Notes) -> Vec<Mod
     notes.note(IN_TWO_JOBS);
     let last = module.words.len() - 1;
     // Also in the first EAV, or in the last.
-    let places = [random.place(last), random.place(12), last.saturating_sub(random.place(30))];
+    let places = [
+        random.place(last),
+        random.place(12),
+        last.saturating_sub(random.place(30)),
+    ];
     let place = random.pick(&places);
-    let second = Module { code: module.code, words: module.words.split_off(place.min(last)) };
+    let second = Module {
+        code: module.code,
+        words: module.words.split_off(place.min(last)),
+    };
     vec![module, second]
 }
 

@@ -35,13 +35,27 @@ struct Plan {
 
 impl Plan {
     fn of(words: usize) -> Self {
-        Self { tag: 1 + words % 2, words, code_at_end: true, bad: None, end: None }
+        Self {
+            tag: 1 + words % 2,
+            words,
+            code_at_end: true,
+            bad: None,
+            end: None,
+        }
     }
 
     /// One whose section ends with this byte of the file.
     fn to(byte: usize) -> Self {
         let tag = 1 + (byte + HEAD + 1) % 2;
-        Self { tag, ..Self::of((byte - HEAD - tag) / 2) }
+        Self {
+            tag,
+            ..Self::of((byte - HEAD - tag) / 2)
+        }
+    }
+
+    fn with_bad(self, place: usize) -> Self {
+        let bad = Some(place);
+        Self { bad, ..self }
     }
 
     /// Where the section's first word stands.
@@ -109,10 +123,14 @@ fn plans() -> Vec<Plan> {
     let reads = about(READ, 5).chain(about(2 * READ, 1)).map(Plan::to);
     let jobs_across = [4, 8, 9, 13, 15, 17].map(|bytes| Plan::to(READ - bytes));
     let whole: Vec<Plan> = few.chain(runs).chain(reads).chain(jobs_across).collect();
-    let across_parts = whole.iter().map(|plan| Plan { code_at_end: false, ..*plan });
-    let across_parts = across_parts.filter(|plan| plan.words > RUN);
-    let spoilt = [bad_in_few(), bad_about_runs(), bad_about_reads(), cut_about_runs(), cut_about_reads()];
-    whole.iter().copied().chain(across_parts).chain(spoilt.concat()).collect()
+    let mut across_parts = whole.clone();
+    across_parts.retain(|plan| plan.words > RUN);
+    across_parts
+        .iter_mut()
+        .for_each(|plan| plan.code_at_end = false);
+    let bad = [bad_in_few(), bad_about_runs(), bad_about_reads()];
+    let cut = [cut_about_runs(), cut_about_reads()];
+    [whole, across_parts, bad.concat(), cut.concat()].concat()
 }
 
 /// With words above 3FF at these places, as far as there are such places.
@@ -121,7 +139,7 @@ fn bad_at(plan: Plan, places: &[usize]) -> Vec<Plan> {
     places.retain(|&place| place < plan.words);
     places.sort_unstable();
     places.dedup();
-    let bad = places.into_iter().map(|place| Plan { bad: Some(place), ..plan });
+    let bad = places.into_iter().map(|place| plan.with_bad(place));
     bad.collect()
 }
 
@@ -146,7 +164,8 @@ fn bad_about_reads() -> Vec<Plan> {
     let plans = [READ + 100, READ + 101, READ + 1, READ + 2, READ].map(Plan::to);
     let all = plans.into_iter().flat_map(|plan| {
         let across = (READ - plan.start()) / 2;
-        bad_at(plan, &[across - 2, across - 1, across, across + 1, plan.words - 1])
+        let last = plan.words - 1;
+        bad_at(plan, &[across - 2, across - 1, across, across + 1, last])
     });
     all.collect()
 }
@@ -154,7 +173,7 @@ fn bad_about_reads() -> Vec<Plan> {
 /// With so many bytes left of the words.
 fn cut_at(plan: Plan, ends: impl Iterator<Item = usize>) -> Vec<Plan> {
     let ends = ends.filter(|&end| end < 2 * plan.words);
-    let cut = ends.map(|end| Plan { end: Some(end), ..plan });
+    let cut = ends.map(Some).map(|end| Plan { end, ..plan });
     cut.collect()
 }
 
@@ -165,8 +184,8 @@ fn cut_about_runs() -> Vec<Plan> {
         let last = 2 * plan.words - 4..2 * plan.words;
         cut_at(plan, about(2 * RUN, 3).chain(last))
     });
-    let bad = [RUN - 2, RUN - 1, RUN].map(|place| Plan { bad: Some(place), ..Plan::of(RUN + 9) });
-    let cut_bad = bad.into_iter().flat_map(|plan| cut_at(plan, about(2 * RUN, 3)));
+    let bad = (RUN - 2..=RUN).map(|place| Plan::of(RUN + 9).with_bad(place));
+    let cut_bad = bad.flat_map(|plan| cut_at(plan, about(2 * RUN, 3)));
     cut.chain(cut_bad).collect()
 }
 
@@ -200,7 +219,7 @@ pub fn file(number: usize) -> Option<Vec<u8>> {
     let plans = plans();
     match plans.get(number) {
         Some(plan) => Some(plan.bytes(number)),
-        None if number + 1 == count() => Some(short_frame()),
+        None if number == count() - 1 => Some(short_frame()),
         None => alignments::file(number - plans.len()),
     }
 }

@@ -27,8 +27,16 @@ pub fn module(random: &mut Random) -> Request {
 }
 
 fn any_module(random: &mut Random, most: usize) -> Request {
-    let code = if random.one_in(16) { rasters::bad_code(random) } else { random.below(12) };
-    let bits = if most == MANY { streams::busy_rows(random) } else { streams::any(random, code) };
+    let code = if random.one_in(16) {
+        rasters::bad_code(random)
+    } else {
+        random.below(12)
+    };
+    let bits = if most == MANY {
+        streams::busy_rows(random)
+    } else {
+        streams::any(random, code)
+    };
     let mut words = signals::whole_words(&bits);
     words.truncate(MOST_FED);
     let as_on_cable = words.len() < SHORT_STREAM || words.len() < most / 2 && random.one_in(3);
@@ -63,7 +71,9 @@ fn lengths(random: &mut Random, bits: &[bool], count: usize) -> Vec<u16> {
     if random.one_in(3) {
         return few_about_a_sync(random, bits, count);
     }
-    let mut places: Vec<usize> = (0..random.below(6)).map(|_| random.place(count + 1)).collect();
+    let mut places: Vec<usize> = (0..random.below(6))
+        .map(|_| random.place(count + 1))
+        .collect();
     if random.one_in(4) {
         places.extend(places.clone());
     }

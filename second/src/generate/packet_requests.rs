@@ -12,7 +12,11 @@ impl Generator {
         let (did, sdid) = pair(random);
         let user = user_words(random);
         let output = lists::output_of_runs(random, 7 + user.len());
-        request(&[&[BUILD_PACKET, did.into(), sdid.into()], &runs(&user), &runs(&output)])
+        request(&[
+            &[BUILD_PACKET, did.into(), sdid.into()],
+            &runs(&user),
+            &runs(&output),
+        ])
     }
 }
 

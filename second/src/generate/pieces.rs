@@ -4,16 +4,17 @@ use super::lists;
 use crate::packet::{self, checksum, MARKER};
 use crate::random::Random;
 
-/// DID and SDID.
 pub type Pair = (u8, u8);
 
-const PAIRS: [Pair; 5] = [(0x41, 0x01), (0x61, 0x01), (0xff, 0x00), (0x80, 0xff), (0x00, 0x41)];
+const DIDS: [u8; 5] = [0x41, 0x61, 0xff, 0x80, 0x00];
+const SDIDS: [u8; 5] = [0x01, 0x01, 0x00, 0xff, 0x41];
 
 pub fn pair(random: &mut Random) -> Pair {
     if random.one_in(4) {
         (byte(random), byte(random))
     } else {
-        random.pick(&PAIRS)
+        let known = random.place(DIDS.len());
+        (DIDS[known], SDIDS[known])
     }
 }
 
@@ -77,7 +78,11 @@ fn user_words(random: &mut Random, pair: Pair) -> Vec<u16> {
 /// One bit of the checksum wrong, often bit 9 alone.
 fn spoil_checksum(random: &mut Random, packet: &mut [u16]) {
     let last = packet.len() - 1;
-    packet[last] ^= if random.bit() { 0x200 } else { 1 << random.below(10) };
+    packet[last] ^= if random.bit() {
+        0x200
+    } else {
+        1 << random.below(10)
+    };
 }
 
 /// One bit of DID, SDID or DC wrong, often a high one, with the checksum made anew or left.

@@ -3,14 +3,16 @@
 use crate::random::Random;
 use crate::raster::{raster_of, TABLE};
 
-const NO_CODES: [u32; 9] = [12, 12, 13, 16, 255, 0x100, 0x1_0001, 0x1000_0007, 0xffff_ffff];
+const NO_CODES: [u32; 9] = [12, 12, 13, 16, 255, 0x100, 0x10001, 0x10000007, u32::MAX];
 /// The first and last lines, and where V or F changes.
 const LINE_EDGES: [u32; 32] = [
-    0, 1, 2, 20, 21, 25, 26, 41, 42, 63, 64, 127, 128, 560, 561, 563, 564, 583, 584, 745, 746, 749, 750, 751, 1121,
-    1122, 1123, 1124, 1125, 1126, 1127, 2047,
+    0, 1, 2, 20, 21, 25, 26, 41, 42, 63, 64, 127, 128, 560, 561, 563, 564, 583, 584, 745, 746, 749,
+    750, 751, 1121, 1122, 1123, 1124, 1125, 1126, 1127, 2047,
 ];
 /// Among them lines whose low eleven or sixteen bits are a line of every raster.
-const LONG_LINES: [u32; 8] = [2048, 2049, 0xffff, 0x1_0000, 0x1_0001, 0x1000_001a, 0x8000_0001, 0xffff_ffff];
+const LONG_LINES: [u32; 8] = [
+    2048, 2049, 0xffff, 0x10000, 0x10001, 0x1000001a, 0x80000001, 0xffffffff,
+];
 
 pub fn bad_code(random: &mut Random) -> u32 {
     random.pick(&NO_CODES)

@@ -13,14 +13,25 @@ pub fn lay_pieces(random: &mut Random, words: &mut [u16], region: &Range<usize>,
     let tidy = random.bit();
     let mut free = region.start;
     for _ in 0..random.pick(&[0, 1, 1, 2, 2, 3]) {
-        let pair = if random.below(2) < share { wanted } else { other_pair(random, wanted) };
-        let (place, piece) = if tidy { (free, packet(random, pair)) } else { untidy(random, region, pair, free) };
+        let pair = if random.below(2) < share {
+            wanted
+        } else {
+            other_pair(random, wanted)
+        };
+        let (place, piece) = if tidy {
+            (free, packet(random, pair))
+        } else {
+            untidy(random, region, pair, free)
+        };
         lay(words, place, &piece);
         free = place + piece.len();
     }
 }
 
-fn untidy(random: &mut Random, region: &Range<usize>, pair: Pair, free: usize) -> (usize, Vec<u16>) {
+/// Where words are laid, and the words.
+type Laid = (usize, Vec<u16>);
+
+fn untidy(random: &mut Random, region: &Range<usize>, pair: Pair, free: usize) -> Laid {
     if random.one_in(5) {
         let place = before(region.end, random.between(8, 270));
         (place, bait(random, pair))
@@ -50,7 +61,11 @@ fn before(place: usize, distance: u32) -> usize {
 
 /// Lays many markers one upon the other, or packets far apart, at the start of a region or at its end.
 pub fn lay_crowd(random: &mut Random, words: &mut [u16], region: &Range<usize>, wanted: Pair) {
-    let mut crowd = if random.bit() { crowded(random) } else { spaced(random, wanted) };
+    let mut crowd = if random.bit() {
+        crowded(random)
+    } else {
+        spaced(random, wanted)
+    };
     crowd.truncate(region.len());
     let place = random.pick(&[region.start, region.end - crowd.len()]);
     lay(words, place, &crowd);

@@ -1,7 +1,7 @@
 //! Requests for the functions that take a row or build one.
 
-use super::faults::{spoil_parts, spoil_row, Parts};
 use super::pieces::pair;
+use super::refused_rows::{spoil_parts, spoil_row, Parts};
 use super::rows::{row, Row};
 use super::{lists, request, Generator, Request};
 use crate::functions::*;
@@ -56,7 +56,9 @@ impl Generator {
         let wanted = pair(random);
         let Row { head, words } = row(random, wanted);
         let layout = head.layout();
-        let active = words.each_ref().map(|words| words[layout.active()].to_vec());
+        let active = words
+            .each_ref()
+            .map(|words| words[layout.active()].to_vec());
         let blanking = words.map(|words| {
             let first = random.place(layout.blanking().len() + 1);
             let laid = random.pick(&[0, first, first.min(40), layout.blanking().len()]);
@@ -66,7 +68,12 @@ impl Generator {
             let more = random.pick(&[0, 0, 1, 5]);
             lists::buffer_of_runs(random, layout.total() + more)
         });
-        let mut parts = Parts { head, active, blanking, buffers };
+        let mut parts = Parts {
+            head,
+            active,
+            blanking,
+            buffers,
+        };
         spoil_parts(random, &mut parts);
         build_request(&parts)
     }
@@ -77,8 +84,8 @@ pub fn both(words: &[Vec<u16>; 2]) -> Request {
 }
 
 fn build_request(parts: &Parts) -> Request {
-    let Parts { head, active, blanking, buffers } = parts;
+    let head = parts.head;
     let numbers = [BUILD_ROW, head.code, head.line];
-    let words = [active, blanking, buffers].map(both).concat();
-    request(&[&numbers, &head.carry_numbers(), &words])
+    let words = [&parts.active, &parts.blanking, &parts.buffers].map(both);
+    request(&[&numbers, &head.carry_numbers(), &words.concat()])
 }

@@ -110,7 +110,11 @@ fn channel(random: &mut Random, layout: &Layout, blanking: u16, wanted: Pair) ->
 /// In the blanking, or in the active words: where V = 0 a packet's codes are reserved there, so it comes seldom.
 fn lay_in_a_region(random: &mut Random, layout: &Layout, words: &mut [u16], wanted: Pair) {
     let in_active = random.one_in(if layout.v { 2 } else { 12 });
-    let region = if in_active { layout.active() } else { layout.blanking() };
+    let region = if in_active {
+        layout.active()
+    } else {
+        layout.blanking()
+    };
     if random.one_in(3) {
         lay_crowd(random, words, &region, wanted);
     } else {
@@ -142,7 +146,9 @@ pub fn damage(random: &mut Random, layout: &Layout, row: &mut Row) {
     }
 }
 
-const RESERVED_OR_NEAR: [u16; 10] = [0x000, 0x001, 0x002, 0x003, 0x004, 0x3fb, 0x3fc, 0x3fd, 0x3fe, 0x3ff];
+const RESERVED_OR_NEAR: [u16; 10] = [
+    0x000, 0x001, 0x002, 0x003, 0x004, 0x3fb, 0x3fc, 0x3fd, 0x3fe, 0x3ff,
+];
 
 /// One of a few words changed, in a bit or wholly.
 fn damage_part(random: &mut Random, part: &mut [u16]) {

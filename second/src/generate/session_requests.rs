@@ -2,7 +2,7 @@
 
 use super::rows::{head, row, Row};
 use super::sessions::{self, alter, begun, in_a_row, out_of_range, run};
-use super::{code_feeds, codes, lists, modules, pieces, rasters, regions, request};
+use super::{code_feeds, codes, lists, pieces, rasters, regions, request};
 use super::{signals, streams};
 use super::{Generator, Request};
 use crate::functions::*;
@@ -40,10 +40,6 @@ impl Generator {
     pub(super) fn feed_with_a_code(&mut self) -> Request {
         let turn = self.next_turn();
         code_feeds::feed(&mut self.random, turn).unspoilt(&mut self.random)
-    }
-
-    pub(super) fn module(&mut self) -> Request {
-        modules::module(&mut self.random)
     }
 }
 
@@ -141,7 +137,11 @@ fn feed_in_a_row(random: &mut Random) -> Feed {
     if numbers.line == 0 && random.bit() {
         spoil_line_words(random, &mut buffers[Y]);
     }
-    Feed { numbers, words: signals::whole_words(&bits[cut..]), buffers }
+    Feed {
+        numbers,
+        words: signals::whole_words(&bits[cut..]),
+        buffers,
+    }
 }
 
 /// A row that has no flag, often of the last line, or one that may have any.
@@ -211,5 +211,9 @@ fn short_feed(random: &mut Random) -> Feed {
         let more = random.pick(&[0, 0, 0, 1, 9]);
         lists::buffer_of_runs(random, total + more)
     });
-    Feed { numbers, words: signals::whole_words(&bits[cut..]), buffers }
+    Feed {
+        numbers,
+        words: signals::whole_words(&bits[cut..]),
+        buffers,
+    }
 }

@@ -4,7 +4,7 @@ use super::rows::{carried, Head, Row};
 use super::signals::{self, PAIR_BITS};
 use super::{lists, rasters};
 use crate::random::Random;
-use crate::raster::{raster_of, Raster};
+use crate::raster::{raster_of, Raster, TABLE};
 use crate::session::{last_of_bits, Numbers, Session};
 
 /// The session's raster; that of raster 7 where there is none.
@@ -136,7 +136,11 @@ pub fn place(random: &mut Random, total: usize) -> usize {
 /// A row of one pair from end to end.
 pub fn flat_row(random: &mut Random, code: u32) -> Row {
     let line = rasters::line_of(random, code);
-    let head = Head { code, line, carry: None };
+    let head = Head {
+        code,
+        line,
+        carry: None,
+    };
     let total = head.layout().total();
     let words = signals::pair(random).map(|word| vec![word; total]);
     Row { head, words }
@@ -144,7 +148,11 @@ pub fn flat_row(random: &mut Random, code: u32) -> Row {
 
 /// A session of which one number or more are out of range.
 pub fn out_of_range(random: &mut Random) -> Numbers {
-    let in_range = if random.one_in(3) { closed(random) } else { open(random) };
+    let in_range = if random.one_in(3) {
+        closed(random)
+    } else {
+        open(random)
+    };
     loop {
         let mut numbers = in_range;
         for _ in 0..random.pick(&[1, 1, 1, 1, 2]) {
@@ -157,13 +165,16 @@ pub fn out_of_range(random: &mut Random) -> Numbers {
 }
 
 fn spoil(random: &mut Random, numbers: &mut Numbers) {
-    let (total, rows) = raster_of(numbers.raster).map_or((2640, 1125), |raster| (raster.total, raster.rows));
+    let Raster { total, rows, .. } = raster_of(numbers.raster).unwrap_or(TABLE[6]);
     let far = random.pick(&[0xffff, 0x1_0000, 0x1_0007, 0x8000_0000, 0xffff_ffff]);
     match random.below(9) {
         0 => numbers.raster = random.pick(&[0, 1, 7, 11, 12, 13, 16, far]),
         1 => numbers.history = lists::above(random),
         2 => numbers.last[1] |= random.pick(&[1 << 28, 1 << 31, 0xf000_0000]),
-        3 => numbers.ahead = random.pick(&[1, 19, 20, 21, 22, 255, numbers.bit, 21 - numbers.bit.min(21)]),
+        3 => {
+            let bit = numbers.bit;
+            numbers.ahead = random.pick(&[1, 19, 20, 21, 22, 255, bit, 21 - bit.min(21)]);
+        }
         4 => numbers.pairs = random.pick(&[1, 2, 3, total + 4, total + 5, far]),
         5 => numbers.bit = random.pick(&[1, 10, 19, 20, 21, 32, 255]),
         6 => numbers.line = random.pick(&[rows + 1, rows + 2, 2047, far]),

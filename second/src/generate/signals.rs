@@ -22,9 +22,8 @@ pub fn row_bits(row: &[Vec<u16>; 2], places: Range<usize>) -> Vec<bool> {
 
 /// A sync and its XYZ pair.
 pub fn code_bits(xyz: [u16; 2]) -> Vec<bool> {
-    let mut bits: Vec<bool> = SYNC_WORDS.into_iter().flat_map(|word| pair_bits([word; 2])).collect();
-    bits.extend(pair_bits(xyz));
-    bits
+    let [first, second, third] = SYNC_WORDS.map(|word| [word; 2]);
+    [first, second, third, xyz].map(pair_bits).concat()
 }
 
 /// An EAV of any F and V.
@@ -42,19 +41,11 @@ pub fn code(random: &mut Random) -> Vec<bool> {
     let broken = word ^ 1 << random.below(10);
     let sav = xyz(random.bit(), random.bit(), false);
     let read = codes::xyz(random) & 0x3ff;
-    let pairs = [
-        [word, word],
-        [word, word],
-        [word, broken],
-        [word, random.short(0, 0x3ff)],
-        [word, sav],
-        [broken, word],
-        [broken, broken],
-        [sav, sav],
-        [sav, word],
-        [read, read],
-    ];
-    let mut bits = code_bits(random.pick(&pairs));
+    let any = random.short(0, 0x3ff);
+    let ys = [word, word, word, word, word, broken, broken, sav, sav, read];
+    let cs = [word, word, broken, any, sav, word, broken, sav, word, read];
+    let pair = random.place(ys.len());
+    let mut bits = code_bits([ys[pair], cs[pair]]);
     if random.one_in(12) {
         let place = random.place(bits.len());
         bits[place] ^= true;
@@ -86,7 +77,8 @@ fn overlapped(random: &mut Random) -> Vec<bool> {
 /// A pair of a picture, or any.
 pub fn pair(random: &mut Random) -> [u16; 2] {
     let any = [random.short(0, 0x3ff), random.short(0, 0x3ff)];
-    random.pick(&[[0x040, 0x200], [0x040, 0x200], [0x000, 0x000], [0x3ff, 0x3ff], any, any])
+    let blanking = [0x040, 0x200];
+    random.pick(&[blanking, blanking, [0x000; 2], [0x3ff; 2], any, any])
 }
 
 fn pairs(random: &mut Random, count: u32) -> Vec<bool> {

@@ -1,11 +1,11 @@
 //! The unscrambled bits of a whole module: rows that follow one another, right or damaged, or none.
 
+use super::camera::Camera;
 use super::code_feeds::{ONES, ZEROS};
 use super::pieces;
 use super::rows::{damage, row_with_packets, Head, Row};
 use super::signals::{self, PAIR_BITS};
 use super::{lists, rasters};
-use crate::build::build;
 use crate::check::next_carry;
 use crate::random::Random;
 use crate::raster::raster_of;
@@ -82,7 +82,11 @@ fn following(random: &mut Random, code: u32, kind: Kind, count: u32) -> Vec<bool
     let mut bits = signals::noise(random, before);
     let line = rasters::line_of(random, code);
     let last = rows_of(code);
-    let mut head = Head { code, line: random.pick(&[last - 1, last, line, line]), carry: None };
+    let mut head = Head {
+        code,
+        line: random.pick(&[last - 1, last, line, line]),
+        carry: None,
+    };
     for _ in 0..count {
         let row = row(random, head, kind);
         bits.extend(signals::row_bits(&row.words, 0..row.words[0].len()));
@@ -128,11 +132,10 @@ pub fn built_row(random: &mut Random, head: Head, busy: bool) -> Row {
         }
         words
     });
-    let [mut y, mut c] = [vec![0; layout.total()], vec![0; layout.total()]];
-    let built =
-        build(head.code, head.line, head.carry, active.each_ref().map(Vec::as_slice), [&[]; 2], [&mut y, &mut c]);
-    built.expect("the row can be built");
-    Row { head, words: [y, c] }
+    let mut camera = Camera::new(head.code, head.line);
+    camera.carry = head.carry;
+    let words = camera.next_words(active.each_ref().map(Vec::as_slice), [&[]; 2]);
+    Row { head, words }
 }
 
 /// The line after, or now and then another: a row is missing, comes twice, or is any.
@@ -157,13 +160,9 @@ fn spoil_distance(random: &mut Random, bits: &mut Vec<bool>) {
         _ => {
             let code = signals::code(random);
             let start = bits.len() - code.len() - few * PAIR_BITS;
-            lay(bits, start, &code);
+            signals::overlay(bits, start, &code);
         }
     }
-}
-
-fn lay(bits: &mut [bool], place: usize, laid: &[bool]) {
-    bits[place..place + laid.len()].copy_from_slice(laid);
 }
 
 /// The EAV that completes the last row, another code, or a cut anywhere; then mostly a few bits more, for a last word

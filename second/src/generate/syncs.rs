@@ -61,7 +61,11 @@ fn zeros(random: &mut Random) -> usize {
 
 /// A sync or nearly one, half of the time with a bit on each side that ends its runs.
 fn sync(random: &mut Random) -> Vec<bool> {
-    let (ones, zeros) = if random.bit() { (20, 40) } else { (ones(random), zeros(random)) };
+    let (ones, zeros) = if random.bit() {
+        (20, 40)
+    } else {
+        (ones(random), zeros(random))
+    };
     let mut bits = [run(true, ones), run(false, zeros)].concat();
     if random.one_in(8) {
         let place = random.place(bits.len());

@@ -44,7 +44,7 @@ fn taken(result: Taken) -> Vec<u32> {
     [refusable(result), outcome.numbers()].concat()
 }
 
-/// "refusal, bytes taken, OUTCOME, SESSION, RUNS Y, RUNS C"
+/// "refusal, bytes taken, OUTCOME; then the desk's SESSION, RUNS Y, RUNS C"
 pub fn take(arguments: &mut Arguments) -> Answer {
     let (lengths, bytes) = (arguments.list()?, arguments.bytes()?);
     let numbers = arguments.session()?;
@@ -75,7 +75,9 @@ pub fn desk_after<'a>(lengths: &[u16], bytes: &'a [u8]) -> (Desk, &'a [u8]) {
 fn is_of_desk(desk: &Desk, numbers: &Numbers) -> bool {
     let raster = raster_of(desk.reader.raster.into());
     let is_refused = !numbers.open || !numbers.in_range();
-    !desk.reader.is_in_words() || is_refused || raster.is_ok_and(|raster| raster.code == numbers.raster)
+    !desk.reader.is_in_words()
+        || is_refused
+        || raster.is_ok_and(|raster| raster.code == numbers.raster)
 }
 
 pub fn outcome_line(arguments: &mut Arguments) -> Answer {

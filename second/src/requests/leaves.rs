@@ -1,9 +1,10 @@
 //! The functions of rasters, CRC, cable bits, timing codes and line numbers.
 
-use super::{list, refusable, Answer};
+use super::{refusable, Answer};
 use crate::arguments::Arguments;
 use crate::raster::Kind;
 use crate::refusal::Refusal;
+use crate::runs::list;
 use crate::{cable, crc, raster, timing};
 
 pub fn raster_row(arguments: &mut Arguments) -> Answer {
@@ -13,8 +14,9 @@ pub fn raster_row(arguments: &mut Arguments) -> Answer {
 }
 
 pub fn name_raster(arguments: &mut Arguments) -> Answer {
-    let (total, active, rows) = (arguments.number()?, arguments.number()?, arguments.number()?);
-    let kind = match arguments.flag()? {
+    let (total, active) = (arguments.number()?, arguments.number()?);
+    let (rows, two_fields) = (arguments.number()?, arguments.flag()?);
+    let kind = match two_fields {
         true => Kind::TwoFields,
         false => Kind::Progressive,
     };

@@ -1,13 +1,16 @@
 //! The functions of a module session.
 
-use super::{list, refusable, Answer};
+use super::{refusable, Answer};
 use crate::arguments::Arguments;
 use crate::refusal::Refusal;
-use crate::runs::runs;
+use crate::runs::{list, runs};
 use crate::session::{Numbers, Report, Session};
 
 /// A call on a session: what it answers, and the session afterwards, which a refused call leaves "as it is".
-fn called<T>(numbers: Numbers, call: impl FnOnce(&mut Session) -> Result<T, Refusal>) -> (Result<T, Refusal>, Numbers) {
+fn called<T>(
+    numbers: Numbers,
+    call: impl FnOnce(&mut Session) -> Result<T, Refusal>,
+) -> (Result<T, Refusal>, Numbers) {
     let result = numbers.session().and_then(|mut session| {
         let answered = call(&mut session)?;
         Ok((answered, session.numbers()))
@@ -30,7 +33,9 @@ pub fn feed(arguments: &mut Arguments) -> Answer {
     let numbers = arguments.session()?;
     let words = arguments.signal(numbers.history)?;
     let [mut y, mut c] = [arguments.runs()?, arguments.runs()?];
-    let (result, numbers) = called(numbers, |session| session.feed(&words, &mut [&mut y, &mut c]));
+    let (result, numbers) = called(numbers, |session| {
+        session.feed(&words, &mut [&mut y, &mut c])
+    });
     let refusal = refusable(result.map(|()| []));
     Ok([&refusal[..], &numbers.list(), &runs(&y), &runs(&c)].concat())
 }
@@ -62,7 +67,13 @@ pub fn module(arguments: &mut Arguments) -> Answer {
         feeds.push(number(fed) as u16);
     }
     let result = session.end();
-    let answer = [vec![number(begun)], list(&feeds), ended(result, session.numbers()), runs(&y), runs(&c)];
+    let answer = [
+        vec![number(begun)],
+        list(&feeds),
+        ended(result, session.numbers()),
+        runs(&y),
+        runs(&c),
+    ];
     Ok(answer.concat())
 }
 
@@ -75,7 +86,9 @@ fn parts<'a>(words: &'a [u16], lengths: &[u16]) -> Result<Vec<&'a [u16]>, String
     let mut parts = Vec::new();
     let mut left = words;
     for &length in lengths {
-        let (part, rest) = left.split_at_checked(length.into()).ok_or("feeds of more words than there are")?;
+        let (part, rest) = left
+            .split_at_checked(length.into())
+            .ok_or("feeds of more words than there are")?;
         parts.push(part);
         left = rest;
     }

@@ -23,11 +23,9 @@ pub struct Module {
     pub last: Vec<bool>,
     /// How many bits of a sync's XYZ pair are still to come.
     pub ahead: usize,
-    /// Whether a sync came.
     pub seen: bool,
     /// How many bits of the open row have come, from its EAV's first on.
     pub row: Option<usize>,
-    /// The expected line.
     pub line: Option<u32>,
     pub carry: Option<Carry>,
     pub rows: u32,

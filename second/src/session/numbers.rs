@@ -52,7 +52,7 @@ impl Numbers {
 
     /// Whether every number is in the range given for it.
     pub fn in_range(&self) -> bool {
-        // "1 to 11 while open, 0 while not"; "T and N are those of the session's raster (of raster 7 for 0)".
+        // "1 to 11 while running, else 0"; "T and N are those of the session's raster (of raster 7 for 0)".
         let Ok(raster) = raster_of(self.raster) else {
             return false;
         };
@@ -78,7 +78,9 @@ impl Numbers {
             bit == 0 && ahead <= PAIR_BITS
         } else {
             let eav = EAV.end as u32;
-            (eav..total + eav).contains(&self.pairs) && bit < PAIR_BITS && (ahead == 0 || ahead + bit == PAIR_BITS)
+            (eav..total + eav).contains(&self.pairs)
+                && bit < PAIR_BITS
+                && (ahead == 0 || ahead + bit == PAIR_BITS)
         };
         self.last[1] < 1 << (SYNC_BITS - 32) && in_row
     }

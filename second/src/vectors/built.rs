@@ -7,7 +7,9 @@ use crate::functions::*;
 use crate::runs::runs;
 
 /// A packet of C: DID 61, SDID 02, user words 004 and 3FB; its checksum is worked by hand.
-pub const OTHER: [u16; 9] = [0x000, 0x3ff, 0x3ff, 0x161, 0x102, 0x102, 0x004, 0x3fb, 0x164];
+pub const OTHER: [u16; 9] = [
+    0x000, 0x3ff, 0x3ff, 0x161, 0x102, 0x102, 0x004, 0x3fb, 0x164,
+];
 pub const CARRY: [u32; 2] = [0x12345, 0x3ffff];
 pub const PACKETS: [&[u16]; 2] = [&NINTH, &OTHER];
 pub const BLANKING: [u16; 2] = [0x040, 0x200];
@@ -45,9 +47,18 @@ pub fn rows() -> [Row; 12] {
     ENTRIES.map(row)
 }
 
+/// "Code 0 stands for 7, our local cameras, and is printed as 7."
+fn printed(code: u32) -> u32 {
+    if code == 0 {
+        7
+    } else {
+        code
+    }
+}
+
 fn row((code, line, v, [eav, sav], line_words): Entry) -> Row {
-    let printed = if code == 0 { 7 } else { code };
-    let [_, _, active, _, _, hanc] = ROWS[printed as usize - 1].map(|number| number as usize);
+    let raster = ROWS[printed(code) as usize - 1].map(|number| number as usize);
+    let [_, _, active, _, _, hanc] = raster;
     let words = [0, 1].map(|channel| {
         let eav = [0x3ff, 0x000, 0x000, eav];
         let crc = crc(CARRY[channel], &[&eav[..], &line_words].concat());
@@ -59,7 +70,13 @@ fn row((code, line, v, [eav, sav], line_words): Entry) -> Row {
         [&start, &sav[..], &picture, last].concat()
     });
     let sav = 8 + hanc;
-    Row { code, line, v, sav, words }
+    Row {
+        code,
+        line,
+        v,
+        sav,
+        words,
+    }
 }
 
 fn crc(register: u32, covered: &[u16]) -> [u16; 2] {
@@ -67,6 +84,11 @@ fn crc(register: u32, covered: &[u16]) -> [u16; 2] {
 }
 
 impl Row {
+    /// The raster as it is printed.
+    pub fn raster(&self) -> u32 {
+        printed(self.code)
+    }
+
     /// The CRC words that the carry asks for are made anew.
     pub fn with_crc(mut self) -> Self {
         for (register, words) in CARRY.into_iter().zip(&mut self.words) {
@@ -77,7 +99,8 @@ impl Row {
     }
 
     pub fn next_carry(&self) -> [u32; 3] {
-        let [y, c] = self.words.each_ref().map(|words| after_words(0, &words[self.sav + 4..]));
+        let channels = self.words.each_ref();
+        let [y, c] = channels.map(|words| after_words(0, &words[self.sav + 4..]));
         [1, y, c]
     }
 
@@ -102,11 +125,11 @@ impl Row {
     /// It is what is built of its active words, and of its blanking up to the packet's end.
     fn built(&self, carry: bool) -> Vector {
         let start = [BUILD_ROW, self.code, self.line];
-        let active = self.words.iter().flat_map(|words| runs(&words[self.sav + 4..]));
-        let blanking = PACKETS.into_iter().flat_map(runs);
-        let buffers = self.words.iter().flat_map(|words| runs(&vec![0xffff; words.len()]));
-        let parts = active.chain(blanking).chain(buffers).collect();
-        let request = [start.to_vec(), carry_numbers(carry).to_vec(), parts].concat();
+        let channels = self.words.each_ref();
+        let active = channels.map(|words| runs(&words[self.sav + 4..]));
+        let buffers = channels.map(|words| runs(&vec![0xffff; words.len()]));
+        let parts = [active, PACKETS.map(runs), buffers].concat().concat();
+        let request = [&start, &carry_numbers(carry)[..], &parts].concat();
         vector(&request, &made(self))
     }
 }

@@ -29,7 +29,7 @@ fn damages(row: &Row, channel: usize) -> Vec<Vector> {
     let groups = [
         covered(row, channel, of_a_code, EAV),
         covered(row, channel, 4 + of_a_pair, LINE),
-        mended(row, channel, row.sav + of_a_code, SAV),
+        mended(&changed(row, channel, row.sav + of_a_code), row, SAV),
         crc_word(row, channel, 6 + of_a_pair),
         checksums(row, channel),
         cut(row, channel),
@@ -53,11 +53,7 @@ fn laid(row: &Row, channel: usize, place: usize, words: &[u16]) -> Row {
 }
 
 /// Damage that shows the flag, with a carry and without, and that correction mends, with a carry and without.
-fn mended(row: &Row, channel: usize, place: usize, flag: u32) -> Vec<Vector> {
-    mended_again(&changed(row, channel, place), row, flag)
-}
-
-fn mended_again(damaged: &Row, row: &Row, flag: u32) -> Vec<Vector> {
+fn mended(damaged: &Row, row: &Row, flag: u32) -> Vec<Vector> {
     vec![
         damaged.checked(true, flag),
         damaged.checked(false, flag),
@@ -94,23 +90,28 @@ fn crc_word(row: &Row, channel: usize, place: usize) -> Vec<Vector> {
 /// In the blanking, and where V is 1 in the active words too.
 fn checksums(row: &Row, channel: usize) -> Vec<Vector> {
     let in_blanking = 8 + PACKETS[channel].len() - 1;
-    let mut vectors = mended(row, channel, in_blanking, CHECKSUM[channel]);
-    // Bit 9 alone is wrong, or all bits are 0.
     let right = row.words[channel][in_blanking];
-    for wrong in [right ^ 0x200, 0x000] {
-        let damaged = laid(row, channel, in_blanking, &[wrong]);
-        vectors.extend(mended_again(&damaged, row, CHECKSUM[channel]));
-    }
+    let mut damaged = vec![
+        changed(row, channel, in_blanking),
+        // Bit 9 alone is wrong, or all bits are 0.
+        laid(row, channel, in_blanking, &[right ^ 0x200]),
+        laid(row, channel, in_blanking, &[0x000]),
+    ];
     if row.v {
-        let in_active = row.words[channel].len() - 1;
-        vectors.extend(mended(row, channel, in_active, CHECKSUM[channel]));
+        damaged.push(changed(row, channel, row.words[channel].len() - 1));
     }
-    vectors
+    let mended = damaged
+        .iter()
+        .flat_map(|damaged| mended(damaged, row, CHECKSUM[channel]));
+    mended.collect()
 }
 
 /// Damage that correction leaves as it is.
 fn left(damaged: &Row, flag: u32) -> [Vector; 2] {
-    [damaged.checked(true, flag), damaged.corrected(true, 0, damaged)]
+    [
+        damaged.checked(true, flag),
+        damaged.corrected(true, 0, damaged),
+    ]
 }
 
 /// At the end of the blanking: a marker alone, a packet that lacks its last word, one that lacks nothing, and a marker
@@ -127,7 +128,11 @@ fn cut(row: &Row, channel: usize) -> Vec<Vector> {
 
 /// The reserved codes' limits, as the first active word of Y and, where V is 0, the last of C.
 fn reserved(row: &Row, channel: usize) -> Vec<Vector> {
-    let place = if row.v || channel == 0 { row.sav + 4 } else { row.words[channel].len() - 1 };
+    let place = if row.v || channel == 0 {
+        row.sav + 4
+    } else {
+        row.words[channel].len() - 1
+    };
     let flag = if row.v { 0 } else { RESERVED };
     [(0x003, flag), (0x004, 0), (0x3fb, 0), (0x3fc, flag)]
         .into_iter()

@@ -21,7 +21,13 @@ const NOTHING: [u32; 8] = [0; 8];
 const BAD_9: [u32; 8] = [2, 9, 0, 0, 0, 0, 0, 0];
 
 pub fn all() -> Vec<Vector> {
-    let groups = [at_a_desk(), refused_bytes(), refused_at_a_desk(), taken(), lines()];
+    let groups = [
+        at_a_desk(),
+        refused_bytes(),
+        refused_at_a_desk(),
+        taken(),
+        lines(),
+    ];
     groups.into_iter().flatten().collect()
 }
 
@@ -30,30 +36,49 @@ fn done(job: &[u32], raster: u32) -> Vec<u32> {
     [&[1, 0, 3], &job[4..7], &[raster, 0, 0, 0, NO_SIGNAL]].concat()
 }
 
-fn desk(lengths: &[u32], bytes: &[u32], buffers: [u32; 6], answer: &[&[u32]]) -> Vector {
-    let (takes, count) = (lengths.len() as u32, bytes.len() as u32);
-    let request = [&[DESK, takes], lengths, &[count], bytes, &buffers].concat();
-    vector(&request, &[&answer.concat()[..], &buffers].concat())
+/// What a take answers: its refusal, how many bytes it took, and its OUTCOME.
+type Taken<'a> = (u32, u32, &'a [u32]);
+
+fn numbers((refusal, count, outcome): &Taken) -> Vec<u32> {
+    [&[*refusal, *count], *outcome].concat()
+}
+
+/// How many bytes a desk is lent by each take but the last, all bytes, and the buffers.
+type Lent<'a> = (&'a [u32], &'a [u32], [u32; 6]);
+
+fn desk((lengths, bytes, buffers): Lent, takes: &[Taken], finish: [u32; 8]) -> Vector {
+    let [takes_before, count] = [lengths, bytes].map(|list| list.len() as u32);
+    let request = [&[DESK, takes_before], lengths, &[count], bytes, &buffers];
+    let answer: Vec<u32> = takes.iter().flat_map(numbers).collect();
+    vector(
+        &request.concat(),
+        &[&answer, &finish[..], &buffers].concat(),
+    )
 }
 
 /// A take stops after the byte that ends a job; what it was lent beyond is lent again.
 fn at_a_desk() -> Vec<Vector> {
     let both = [A17, B02].concat();
-    let (a17, b02) = (done(&A17, 1), done(&B02, 7));
     // "Code 0 stands for 7, our local cameras, and is printed as 7."
     let mut local = B02;
     local[11] = 0;
-    let (first, second): ([&[u32]; 2], [&[u32]; 2]) = ([&[0, 17], &a17], [&[0, 17], &b02]);
+    let (a17, b02) = (&done(&A17, 1)[..], &done(&B02, 7)[..]);
+    let (first, second): (Taken, Taken) = ((0, 17, a17), (0, 17, b02));
     // Lent by 5, 0, 12 and 16 bytes, and by the last.
-    let parts: [[&[u32]; 2]; 5] =
-        [[&[0, 5], &NOTHING], [&[0, 0], &NOTHING], [&[0, 12], &a17], [&[0, 16], &NOTHING], [&[0, 1], &b02]];
+    let parts = [
+        (0, 5, &NOTHING[..]),
+        (0, 0, &NOTHING),
+        (0, 12, a17),
+        (0, 16, &NOTHING),
+        (0, 1, b02),
+    ];
     vec![
-        desk(&[], &[], ENOUGH, &[&[0, 0], &NOTHING, &NOTHING]),
-        desk(&[], &both, ENOUGH, &[&first[..], &[&NOTHING]].concat()),
-        desk(&[34], &both, ENOUGH, &[&first[..], &second, &[&NOTHING]].concat()),
-        desk(&[5, 0, 12, 16], &both, ENOUGH, &[&parts.concat()[..], &[&NOTHING]].concat()),
-        desk(&[], &local, ENOUGH, &[&second[..], &[&NOTHING]].concat()),
-        desk(&[], &both[..16], ENOUGH, &[&[0, 16], &NOTHING, &BAD_9]),
+        desk((&[], &[], ENOUGH), &[(0, 0, &NOTHING)], NOTHING),
+        desk((&[], &both, ENOUGH), &[first], NOTHING),
+        desk((&[34], &both, ENOUGH), &[first, second], NOTHING),
+        desk((&[5, 0, 12, 16], &both, ENOUGH), &parts, NOTHING),
+        desk((&[], &local, ENOUGH), &[second], NOTHING),
+        desk((&[], &both[..16], ENOUGH), &[(0, 16, &NOTHING)], BAD_9),
     ]
 }
 
@@ -72,9 +97,9 @@ fn refused_bytes() -> Vec<Vector> {
     let refused = |bytes: &[u32], number| {
         let count = bytes.len() as u32;
         let bad = [2, number, 0, 0, 0, 0, 0, 0];
-        let takes: [&[u32]; 5] = [&[0, count], &bad, &[0, 2], &NOTHING, &NOTHING];
+        let takes: [Taken; 2] = [(0, count, &bad), (0, 2, &NOTHING)];
         let file = [bytes, &[0x41, 0x20]].concat();
-        desk(&[count + 2], &file, ENOUGH, &takes)
+        desk((&[count + 2], &file, ENOUGH), &takes, NOTHING)
     };
     vec![
         refused(&with(0, 0)[..4], 9),
@@ -93,14 +118,13 @@ fn refused_bytes() -> Vec<Vector> {
 /// After a refused byte all bytes are taken, and nothing comes of them; a refused take takes none.
 fn refused_at_a_desk() -> Vec<Vector> {
     let file = [0, 0, 0, 0, 1];
-    let bad: [&[u32]; 2] = [&[0, 4], &BAD_9];
-    let stopped: [&[u32]; 2] = [&[0, 1], &NOTHING];
-    let refused: [&[u32]; 2] = [&[1, 0], &NOTHING];
+    let (bad, stopped): (Taken, Taken) = ((0, 4, &BAD_9), (0, 1, &NOTHING));
+    let refused: Taken = (1, 0, &NOTHING);
     vec![
-        desk(&[], &file, ENOUGH, &[&bad[..], &[&NOTHING]].concat()),
-        desk(&[9], &file, ENOUGH, &[&bad[..], &stopped, &[&NOTHING]].concat()),
-        desk(&[], &A17, SHORT_Y, &[&refused[..], &[&NOTHING]].concat()),
-        desk(&[3], &A17, SHORT_C, &[&refused[..], &refused, &[&NOTHING]].concat()),
+        desk((&[], &file, ENOUGH), &[bad], NOTHING),
+        desk((&[9], &file, ENOUGH), &[bad, stopped], NOTHING),
+        desk((&[], &A17, SHORT_Y), &[refused], NOTHING),
+        desk((&[3], &A17, SHORT_C), &[refused, refused], NOTHING),
     ]
 }
 
@@ -118,13 +142,13 @@ fn take(
     session: Numbers,
     bytes: &[u32],
     buffers: [u32; 6],
-    (answer, after): (&[&[u32]], [u32; 15]),
+    (taken, after): (Taken, [u32; 15]),
 ) -> Vector {
     let lengths = [1, before.len() as u32];
     let count = lengths[1] + bytes.len() as u32;
-    let taken = [&[TAKE], &lengths[..], &[count], before, bytes].concat();
-    let request = [&taken, &session.list()[..], &buffers].concat();
-    vector(&request, &[&answer.concat(), &after[..], &buffers].concat())
+    let asked = [&[TAKE], &lengths[..], &[count], before, bytes].concat();
+    let request = [&asked, &session.list()[..], &buffers].concat();
+    vector(&request, &[&numbers(&taken), &after[..], &buffers].concat())
 }
 
 /// "7 where the desk reads words and its session is not running or not in range, else 1 where a buffer has fewer than 4,125
@@ -132,45 +156,38 @@ fn take(
 fn taken() -> Vec<Vector> {
     let closed = Numbers::default();
     let counted = Numbers { rows: 5, ..closed };
-    let bad = Numbers { history: 0x400, ..of(1) };
-    let mut vectors = Vec::new();
+    let bad = Numbers {
+        history: 0x400,
+        ..of(1)
+    };
+    let (nothing, wipe_9): (Taken, Taken) = ((0, 1, &NOTHING), (0, 1, &BAD_9));
+    let refused = |before: &[u32], session: Numbers, buffers, refusal| {
+        let answer = ((refusal, 0, &NOTHING[..]), session.list());
+        take(before, session, &[0], buffers, answer)
+    };
+    let mut vectors = ends();
     // Before the count of words, amid it, before a word's low byte, and before its high byte.
     for before in [0, 2, 4, 5].map(job_up_to) {
-        for (session, buffers, refusal) in [
-            (closed, ENOUGH, 7),
-            (counted, SHORT_Y, 7),
-            (bad, ENOUGH, 7),
-            (bad, SHORT_C, 7),
-            (of(1), SHORT_Y, 1),
-            (of(1), SHORT_C, 1),
-        ] {
-            let refused: &[&[u32]] = &[&[refusal, 0], &NOTHING];
-            let answer = (refused, session.list());
-            vectors.push(take(&before, session, &[0], buffers, answer));
-            vectors.push(take(&before, session, &[], buffers, answer));
-        }
+        vectors.extend([
+            refused(&before, closed, ENOUGH, 7),
+            refused(&before, counted, SHORT_Y, 7),
+            refused(&before, bad, SHORT_C, 7),
+            refused(&before, of(1), SHORT_Y, 1),
+            refused(&before, of(1), SHORT_C, 1),
+        ]);
     }
+    // The first byte of a file, the wipe byte, a bad one, and a byte after a refused one.
     for session in [closed, counted, bad, of(7)] {
-        vectors.extend(taken_outside_of_words(session));
+        let as_it_was = (nothing, session.list());
+        vectors.extend([
+            refused(&[], session, SHORT_Y, 1),
+            take(&[], session, &[3], ENOUGH, as_it_was),
+            take(&UP_TO_WIPE, session, &[1], ENOUGH, (nothing, of(1).list())),
+            take(&UP_TO_WIPE, session, &[2], ENOUGH, (wipe_9, FRESH)),
+            take(&[0; 4], session, &[3], ENOUGH, as_it_was),
+        ]);
     }
-    vectors.extend(ends());
     vectors
-}
-
-/// The first byte of a file, the wipe byte, a bad one, and a byte after a refused one.
-fn taken_outside_of_words(session: Numbers) -> [Vector; 5] {
-    let nothing: &[&[u32]] = &[&[0, 1], &NOTHING];
-    let refused: &[&[u32]] = &[&[1, 0], &NOTHING];
-    let list = session.list();
-    let begun = (nothing, of(1).list());
-    let bad: (&[&[u32]], _) = (&[&[0, 1], &BAD_9], FRESH);
-    [
-        take(&[], session, &[3], ENOUGH, (nothing, list)),
-        take(&[], session, &[3], SHORT_Y, (refused, list)),
-        take(&UP_TO_WIPE, session, &[1], ENOUGH, begun),
-        take(&UP_TO_WIPE, session, &[2], ENOUGH, bad),
-        take(&[0, 0, 0, 0], session, &[3], ENOUGH, (nothing, list)),
-    ]
 }
 
 /// The last bytes of a job without a sync: the count of no words, one word, its high byte, and a word above 3FF.
@@ -178,8 +195,8 @@ fn ends() -> Vec<Vector> {
     let done = [1, 0, 1, 0x41, 1, 0, 0, 0, NO_SIGNAL];
     let bad_3 = [2, 3, 0, 0, 0, 0, 0, 0];
     let end = |count: usize, bytes: &[u32], taken, outcome: &[u32]| {
-        let answer: &[&[u32]] = &[&[0, taken], outcome];
-        take(&job_up_to(count), of(1), bytes, ENOUGH, (answer, FRESH))
+        let answer = ((0, taken, outcome), FRESH);
+        take(&job_up_to(count), of(1), bytes, ENOUGH, answer)
     };
     vec![
         end(0, &[0, 0, 0, 0, 3], 4, &done),
@@ -202,8 +219,14 @@ fn lines() -> Vec<Vector> {
         line(&done(&A17, 1), "A17 raster 1 rows 0 faults 0 NO SIGNAL\n"),
         line(&done(&B02, 7), "B02 raster 7 rows 0 faults 0 NO SIGNAL\n"),
         line(&wiped, "A raster 10 rows 4294967295 faults 100 FAIL\n"),
-        line(&[1, 0, 0, 2, 0, 750, 0, 4], " raster 2 rows 750 faults 0 PASS\n"),
-        line(&[1, 0, 0, 2, 0, 749, 0, 3], " raster 2 rows 749 faults 0 SHORT\n"),
+        line(
+            &[1, 0, 0, 2, 0, 750, 0, 4],
+            " raster 2 rows 750 faults 0 PASS\n",
+        ),
+        line(
+            &[1, 0, 0, 2, 0, 749, 0, 3],
+            " raster 2 rows 749 faults 0 SHORT\n",
+        ),
         line(&unsaid, " raster 1 rows 0 faults 0 \n"),
         line(&BAD_9, "bad file 9\n"),
         line(&[2, 4, 0, 0, 0, 0, 0, 0], "bad file 4\n"),

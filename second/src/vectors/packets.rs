@@ -5,33 +5,42 @@ use crate::functions::BUILD_PACKET;
 use crate::runs::runs;
 
 /// "(9) packet 000 3FF 3FF 241 101 104 185 206 101 200 has checksum 2D2"
-pub const NINTH: [u16; 11] = [0x000, 0x3ff, 0x3ff, 0x241, 0x101, 0x104, 0x185, 0x206, 0x101, 0x200, 0x2d2];
+pub const NINTH: [u16; 11] = [
+    0x000, 0x3ff, 0x3ff, 0x241, 0x101, 0x104, 0x185, 0x206, 0x101, 0x200, 0x2d2,
+];
 
 /// The audio DIDs as the data sheets print them (000:1911-1919, 002:100, 003:2137-2141).
 const AUDIO_DIDS: [u16; 28] = [
-    0x2ff, 0x1fd, 0x1fb, 0x2f9, 0x1fe, 0x2fc, 0x2fa, 0x1f8, 0x1ef, 0x2ee, 0x2ed, 0x1ec, 0x2e7, 0x1e6, 0x1e5, 0x2e4,
-    0x1e3, 0x2e2, 0x2e1, 0x1e0, 0x1a7, 0x2a6, 0x2a5, 0x1a4, 0x2a3, 0x1a2, 0x1a1, 0x2a0,
+    0x2ff, 0x1fd, 0x1fb, 0x2f9, 0x1fe, 0x2fc, 0x2fa, 0x1f8, 0x1ef, 0x2ee, 0x2ed, 0x1ec, 0x2e7,
+    0x1e6, 0x1e5, 0x2e4, 0x1e3, 0x2e2, 0x2e1, 0x1e0, 0x1a7, 0x2a6, 0x2a5, 0x1a4, 0x2a3, 0x1a2,
+    0x1a1, 0x2a0,
 ];
 
 pub fn all() -> Vec<Vector> {
-    let groups = [ninth_built(), user_words(), user_counts(), identities(), header_words()];
+    let groups = [
+        ninth_built(),
+        user_words(),
+        user_counts(),
+        identities(),
+        header_words(),
+    ];
     groups.into_iter().flatten().collect()
 }
 
 /// Asked of an output that holds words, which has others afterwards.
-fn asked(did: u32, sdid: u32, user: &[u16], held: &[u16], answer: [u32; 2], after: &[u16]) -> Vector {
-    let request = [&[BUILD_PACKET, did, sdid], &runs(user)[..], &runs(held)].concat();
+fn asked(pair: [u32; 2], user: &[u16], held: &[u16], answer: [u32; 2], after: &[u16]) -> Vector {
+    let request = [&[BUILD_PACKET], &pair[..], &runs(user), &runs(held)].concat();
     vector(&request, &[&answer, &runs(after)[..]].concat())
 }
 
 /// A packet built into an output of as many words, each FFFF before.
 fn built(did: u32, sdid: u32, user: &[u16], packet: &[u16]) -> Vector {
     let held = vec![0xffff; packet.len()];
-    asked(did, sdid, user, &held, [0, packet.len() as u32], packet)
+    asked([did, sdid], user, &held, [0, packet.len() as u32], packet)
 }
 
 fn not_built(refusal: u32, did: u32, user: &[u16], held: &[u16]) -> Vector {
-    asked(did, 0x01, user, held, [refusal, 0], held)
+    asked([did, 0x01], user, held, [refusal, 0], held)
 }
 
 fn ninth_built() -> Vec<Vector> {
@@ -39,7 +48,7 @@ fn ninth_built() -> Vec<Vector> {
     let longer = [&NINTH[..], &[0x155]].concat();
     vec![
         built(0x41, 0x01, user, &NINTH),
-        asked(0x41, 0x01, user, &[0x155; 12], [0, 11], &longer),
+        asked([0x41, 0x01], user, &[0x155; 12], [0, 11], &longer),
         not_built(1, 0x41, user, &[0x155; 10]),
     ]
 }

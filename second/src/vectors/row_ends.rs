@@ -16,83 +16,61 @@ pub fn all() -> Vec<Vector> {
     groups.into_iter().flatten().collect()
 }
 
-/// What is fed to a row after a sync at its alignment, when so many of its pairs have come, and what it answers.
-struct Fed<'a> {
-    row: &'a Row,
-    pairs: usize,
-    line: u32,
-    carry: bool,
-    counts: [u32; 2],
-    /// C and Y.
-    xyz: [u16; 2],
+/// A session in a row after a sync at its alignment, when so many of the row's pairs have come.
+fn after_sync(row: &Row, pairs: usize) -> Numbers {
+    Numbers {
+        last: SYNC,
+        ahead: 20,
+        pairs: pairs as u32,
+        line: row.line,
+        carry: Some(CARRY),
+        rows: 5,
+        faults: 6,
+        ..seen(row)
+    }
 }
 
-impl Fed<'_> {
-    /// "C word first, then Y": it is scrambled from history 0.
-    fn answered(&self, answer: Numbers, buffers: &Row) -> Vector {
-        let raster = self.raster();
-        let [rows, faults] = self.counts;
-        let before = Numbers {
-            last: SYNC,
-            ahead: 20,
-            seen: true,
-            pairs: self.pairs as u32,
-            line: self.line,
-            carry: self.carry.then_some(CARRY),
-            rows,
-            faults,
-            ..of(raster)
-        };
-        let mut cable = [0; 2];
-        let history = scramble(0, &self.xyz, &mut cable);
+fn seen(row: &Row) -> Numbers {
+    let (seen, begun) = (true, of(row.raster()));
+    Numbers { seen, ..begun }
+}
+
+/// What the session answers that is fed the XYZ pair of C and Y, "C word first, then Y", scrambled from history 0.
+fn fed(row: &Row, before: Numbers, xyz: [u16; 2], answer: Numbers, buffers: &Row) -> Vector {
+    let history = scramble(0, &xyz, &mut [0; 2]);
+    let [c, y] = xyz.map(u32::from);
+    let answer = Numbers {
+        history: history.expect("the words are at most 3FF"),
         // Forty zeros, then the pair.
-        let [c, y] = self.xyz.map(u32::from);
-        let answer = Numbers {
-            history: history.expect("the words are at most 3FF"),
-            last: [0, c << 8 | y << 18],
-            seen: true,
-            ..answer
-        };
-        let signal = [1, 1, 1, c, y, 0];
-        let request = [&[FEED], &before.list()[..], &signal, &self.row.runs()].concat();
-        vector(&request, &[&[0], &answer.list()[..], &buffers.runs()].concat())
-    }
-
-    fn raster(&self) -> u32 {
-        if self.row.code == 0 {
-            7
-        } else {
-            self.row.code
-        }
-    }
-
-    /// The first four pairs of the next row are laid.
-    fn opened(&self) -> Row {
-        let [c, y] = self.xyz;
-        let mut row = self.row.clone();
-        lay(&mut row.words[0], 0, &[0x3ff, 0x000, 0x000, y]);
-        lay(&mut row.words[1], 0, &[0x3ff, 0x000, 0x000, c]);
-        row
-    }
+        last: [0, c << 8 | y << 18],
+        ..answer
+    };
+    let signal = [1, 1, 1, c, y, 0];
+    let request = [&[FEED], &before.list()[..], &signal, &row.runs()].concat();
+    let answer = [&[0], &answer.list()[..], &buffers.runs()].concat();
+    vector(&request, &answer)
 }
 
-/// N of the row's raster.
-fn last_line(row: &Row) -> u32 {
-    let code = if row.code == 0 { 7 } else { row.code };
-    ROWS[code as usize - 1][3]
+/// The row once the first four pairs of the next are laid.
+fn opened(row: &Row, [c, y]: [u16; 2]) -> Row {
+    let mut row = row.clone();
+    lay(&mut row.words[0], 0, &[0x3ff, 0x000, 0x000, y]);
+    lay(&mut row.words[1], 0, &[0x3ff, 0x000, 0x000, c]);
+    row
 }
 
-fn line_after(row: &Row) -> u32 {
-    if row.line == last_line(row) {
-        1
-    } else {
-        row.line + 1
-    }
-}
-
-fn carried(row: &Row) -> Option<[u32; 2]> {
+/// The session after a row that was judged: the next line is expected, with the row's carry.
+fn judged(row: &Row, rows: u32, faults: u32) -> Numbers {
+    let [_, _, _, last_line, ..] = ROWS[row.raster() as usize - 1];
     let [_, y, c] = row.next_carry();
-    Some([y, c])
+    Numbers {
+        pairs: 4,
+        line: row.line % last_line + 1,
+        carry: Some([y, c]),
+        rows,
+        faults,
+        ..seen(row)
+    }
 }
 
 /// "It is complete when the next EAV comes T pairs later, and is then judged"; "Both counts stay at 4,294,967,295".
@@ -101,23 +79,14 @@ fn completed() -> Vec<Vector> {
     for row in rows() {
         for (row, fault) in [(&row, 0), (&flagged(&row), 1)] {
             for count in [0, CEILING - 1, CEILING] {
-                let fed = Fed {
-                    row,
-                    pairs: row.words[0].len() + 3,
-                    line: row.line,
-                    carry: true,
-                    counts: [count; 2],
-                    xyz: [0x155, 0x274],
+                let before = Numbers {
+                    rows: count,
+                    faults: count,
+                    ..after_sync(row, row.words[0].len() + 3)
                 };
-                let answer = Numbers {
-                    pairs: 4,
-                    line: line_after(row),
-                    carry: carried(row),
-                    rows: count.saturating_add(1),
-                    faults: count.saturating_add(fault),
-                    ..of(fed.raster())
-                };
-                vectors.push(fed.answered(answer, &fed.opened()));
+                let [rows, faults] = [1, fault].map(|more| count.saturating_add(more));
+                let (xyz, answer) = ([0x155, 0x274], judged(row, rows, faults));
+                vectors.push(fed(row, before, xyz, answer, &opened(row, xyz)));
             }
         }
     }
@@ -134,34 +103,33 @@ fn flagged(row: &Row) -> Row {
 /// "The expected line is taken from the Y line words of the first complete row while none is known": it is judged without
 /// CRC and not counted. "else one fault; that row is not judged, leaves no carry, and the next is tried".
 fn lines_taken() -> Vec<Vector> {
+    let first_complete = |row: &Row, answer| {
+        let before = Numbers {
+            line: 0,
+            carry: None,
+            ..after_sync(row, row.words[0].len() + 3)
+        };
+        fed(row, before, [0x2d8; 2], answer, &opened(row, [0x2d8; 2]))
+    };
     let mut vectors = Vec::new();
     for row in rows() {
         for row in [&row, &flagged(&row)] {
-            let fed = first_complete(row);
-            let answer = Numbers {
-                pairs: 4,
-                line: line_after(row),
-                carry: carried(row),
-                rows: 5,
-                faults: 6,
-                ..of(fed.raster())
-            };
-            vectors.push(fed.answered(answer, &fed.opened()));
+            vectors.push(first_complete(row, judged(row, 5, 6)));
         }
         for (place, bits) in [(4, 0x001), (4, 0x200), (5, 0x001), (5, 0x040), (5, 0x400)] {
             let mut row = row.clone();
             row.words[0][place] ^= bits;
-            let fed = first_complete(&row);
-            let answer = Numbers { pairs: 4, rows: 5, faults: 7, ..of(fed.raster()) };
-            vectors.push(fed.answered(answer, &fed.opened()));
+            vectors.push(first_complete(&row, one_fault(&row, 4)));
         }
     }
     vectors
 }
 
-/// The row is complete while no line is known.
-fn first_complete(row: &Row) -> Fed<'_> {
-    Fed { row, pairs: row.words[0].len() + 3, line: 0, carry: false, counts: [5, 6], xyz: [0x2d8, 0x2d8] }
+/// The session after one fault, which has no line and no carry, with so many pairs of an open row.
+fn one_fault(row: &Row, pairs: u32) -> Numbers {
+    let mut numbers = seen(row);
+    (numbers.pairs, numbers.rows, numbers.faults) = (pairs, 5, 7);
+    numbers
 }
 
 /// "an EAV at another distance; the four pairs after the T-th not an EAV": they "drop the row, carry and expected line".
@@ -169,23 +137,19 @@ fn dropped() -> Vec<Vector> {
     let mut vectors = Vec::new();
     for row in rows() {
         let total = row.words[0].len();
-        let fed = |pairs, xyz| Fed { row: &row, pairs, line: row.line, carry: true, counts: [5, 6], xyz };
         for pairs in [7, total - 1, total, total + 2] {
-            let fed = fed(pairs, [0x274, 0x368]);
-            let mut opened = fed.opened();
+            let (c, y) = (0x274, 0x368);
+            let mut opened = opened(&row, [c, y]);
             // The pair has ended in the row that it drops, which has T places.
-            if pairs < total {
-                opened.words[0][pairs] = 0x368;
-                opened.words[1][pairs] = 0x274;
-            }
-            let answer = Numbers { pairs: 4, rows: 5, faults: 7, ..of(fed.raster()) };
-            vectors.push(fed.answered(answer, &opened));
+            lay(&mut opened.words[0], pairs, &[y]);
+            lay(&mut opened.words[1], pairs, &[c]);
+            let before = after_sync(&row, pairs);
+            vectors.push(fed(&row, before, [c, y], one_fault(&row, 4), &opened));
         }
         // An SAV; a Y word that is not exact; an EAV in C alone.
         for xyz in [[0x200, 0x200], [0x275, 0x275], [0x274, 0x200]] {
-            let fed = fed(total + 3, xyz);
-            let answer = Numbers { rows: 5, faults: 7, ..of(fed.raster()) };
-            vectors.push(fed.answered(answer, &row));
+            let before = after_sync(&row, total + 3);
+            vectors.push(fed(&row, before, xyz, one_fault(&row, 0), &row));
         }
     }
     vectors

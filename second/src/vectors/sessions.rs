@@ -19,7 +19,11 @@ pub fn all() -> Vec<Vector> {
 
 /// What begin answers.
 pub fn of(raster: u32) -> Numbers {
-    Numbers { open: true, raster, ..Numbers::default() }
+    Numbers {
+        open: true,
+        raster,
+        ..Numbers::default()
+    }
 }
 
 fn begin(numbers: Numbers, raster: u32, refusal: u32, answer: Numbers) -> Vector {
@@ -30,8 +34,16 @@ fn begin(numbers: Numbers, raster: u32, refusal: u32, answer: Numbers) -> Vector
 /// "Code 0 stands for 7"; "begin when open" is 7, and comes before 4.
 fn begun() -> Vec<Vector> {
     let closed = Numbers::default();
-    let left = Numbers { line: 1125, carry: Some([0x3ffff; 2]), rows: CEILING, faults: CEILING, ..closed };
-    let mut vectors: Vec<Vector> = (1..=11).map(|raster| begin(closed, raster, 0, of(raster))).collect();
+    let left = Numbers {
+        line: 1125,
+        carry: Some([0x3ffff; 2]),
+        rows: CEILING,
+        faults: CEILING,
+        ..closed
+    };
+    let mut vectors: Vec<Vector> = (1..=11)
+        .map(|raster| begin(closed, raster, 0, of(raster)))
+        .collect();
     vectors.extend([
         begin(closed, 0, 0, of(7)),
         begin(left, 0, 0, of(7)),
@@ -65,50 +77,65 @@ fn ended() -> Vec<Vector> {
 
 fn end(raster: u32, seen: bool, rows: u32, faults: u32, verdict: u32) -> Vector {
     // Three pairs of blanking have come, and before them a sync that is no EAV's, or none.
-    let numbers = Numbers { last: [0x2001_0200, 0x0102_0010], seen, rows, faults, ..of(raster) };
+    let numbers = Numbers {
+        last: [0x2001_0200, 0x0102_0010],
+        seen,
+        rows,
+        faults,
+        ..of(raster)
+    };
     let request = [&[END], &numbers.list()[..]].concat();
     let answer = [&[0, raster, rows, faults, verdict], &FRESH[..]].concat();
     vector(&request, &answer)
 }
 
-/// "a session number outside the range docs/ gives for it": each number by one.
-fn out_of_range() -> Vec<Vector> {
-    let open = of(1);
-    let row = Numbers { seen: true, pairs: 9, bit: 7, ..open };
-    let closed = Numbers::default();
+/// A session, and what becomes one of its fifteen numbers: the raster has place 1, the carry 10 to 12.
+type Change = (Numbers, usize, u32);
+
+/// "a session number outside the range docs/ gives for it": each number by one; a carry "none where line is 0".
+fn changes() -> [Change; 18] {
+    let (closed, open) = (Numbers::default(), of(1));
+    let (pairs, bit) = (9, 7);
+    let row = Numbers { pairs, bit, ..open };
+    let mut judged = open;
+    (judged.line, judged.carry) = (1, Some([0; 2]));
     [
-        Numbers { raster: 0, ..open },
-        Numbers { raster: 12, ..open },
-        Numbers { raster: 1, ..closed },
-        Numbers { history: 0x400, ..open },
-        Numbers { last: [0, 1 << 28], ..open },
-        Numbers { ahead: 21, ..open },
-        Numbers { ahead: 12, ..row },
-        Numbers { ahead: 14, ..row },
-        Numbers { pairs: 3, ..row },
-        Numbers { pairs: 1650 + 4, ..row },
-        Numbers { bit: 20, ..row },
-        Numbers { bit: 1, ..open },
-        Numbers { line: 751, ..open },
-        Numbers { line: 1126, ..closed },
-        Numbers { line: 1, carry: Some([0x40000, 0]), ..open },
-        Numbers { line: 1, carry: Some([0, 0x40000]), ..open },
-        // "none where line is 0"
-        Numbers { carry: Some([0, 0]), ..open },
-        Numbers { carry: Some([0, 0]), ..closed },
+        (open, 1, 0),
+        (open, 1, 12),
+        (closed, 1, 1),
+        (open, 2, 0x400),
+        (open, 4, 1 << 28),
+        (open, 5, 21),
+        (row, 5, 12),
+        (row, 5, 14),
+        (row, 7, 3),
+        (row, 7, 1650 + 4),
+        (row, 8, 20),
+        (open, 8, 1),
+        (open, 9, 751),
+        (closed, 9, 1126),
+        (judged, 11, 0x40000),
+        (judged, 12, 0x40000),
+        (judged, 9, 0),
+        (closed, 10, 1),
     ]
-    .into_iter()
-    .flat_map(|numbers| {
-        let list = numbers.list();
-        let request = [&[END], &list[..]].concat();
-        let feed = [&[FEED], &list[..], &[0, 0, 0, 0, 0]].concat();
+}
+
+fn out_of_range() -> Vec<Vector> {
+    let refused = changes().into_iter().flat_map(|(numbers, place, number)| {
+        let mut list = numbers.list();
+        list[place] = number;
+        let refused = |function, arguments: &[u32], values: &[u32], buffers: &[u32]| {
+            let request = [&[function], &list[..], arguments].concat();
+            vector(&request, &[&[7], values, &list, buffers].concat())
+        };
         [
-            begin(numbers, 1, 7, numbers),
-            vector(&request, &[&[7, 0, 0, 0, 0], &list[..]].concat()),
-            vector(&feed, &[&[7], &list[..], &[0, 0]].concat()),
+            refused(BEGIN, &[1], &[], &[]),
+            refused(FEED, &[0; 5], &[], &[0, 0]),
+            refused(END, &[], &[0; 4], &[]),
         ]
-    })
-    .collect()
+    });
+    refused.collect()
 }
 
 /// A feed of the words as they are on the cable, with buffers of so many words 155.

@@ -16,8 +16,7 @@ pub fn all() -> Vec<Vector> {
             vectors.extend([0, 1].map(|channel| extracted(&row, channel)));
             vectors.push(row.corrected(true, 1, &wiped(&row)));
             vectors.push(wiped(&row).checked(true, 0));
-            vectors.extend(made_whole(&row));
-            vectors.extend(still_cut(&row));
+            vectors.extend(sought_in_order(&row));
             vectors
         })
         .collect()
@@ -28,11 +27,42 @@ fn sought(row: &Row) -> Vec<Vector> {
     let [y, c] = PACKETS;
     [(0x41, 0x01, y), (0x61, 0x02, c), (0x41, 0x02, &[])]
         .into_iter()
-        .map(|(did, sdid, part)| {
-            let request = [&[FIND_PACKET, row.code, row.line, did, sdid], &row.runs()[..]];
-            vector(&request.concat(), &[&[0], &runs(part)[..]].concat())
-        })
+        .map(|(did, sdid, part)| found(row, did, sdid, part))
         .collect()
+}
+
+fn found(row: &Row, did: u32, sdid: u32, part: &[u16]) -> Vector {
+    let start = [FIND_PACKET, row.code, row.line, did, sdid];
+    let request = [&start, &row.runs()[..]].concat();
+    vector(&request, &[&[0], &runs(part)[..]].concat())
+}
+
+/// "Y before C"; "blanking before active words": Y's packet three times, told by its DC, of which the first found is blanked.
+fn sought_in_order(row: &Row) -> Vec<Vector> {
+    let active = row.sav + 4;
+    let places = [(0, 8, 0x104), (0, active, 0x204), (1, 8, 0x304)];
+    let packet = |dc| {
+        let mut packet = NINTH;
+        packet[5] = dc;
+        packet
+    };
+    let mut row = wiped(row);
+    for (channel, place, dc) in places {
+        lay(&mut row.words[channel], place, &packet(dc));
+    }
+    let mut vectors = Vec::new();
+    for (channel, place, dc) in places
+        .into_iter()
+        .filter(|place| row.v || place.1 != active)
+    {
+        vectors.push(found(&row, 0x41, 0x01, &packet(dc)));
+        lay(
+            &mut row.words[channel],
+            place,
+            &[BLANKING[channel]; NINTH.len()],
+        );
+    }
+    vectors
 }
 
 /// "Extraction copies all whole packets of a channel, in order, end to end."
@@ -57,35 +87,4 @@ fn wiped(row: &Row) -> Row {
         }
     }
     wiped
-}
-
-/// A marker so many words before the SAV, whose DC lies in the packet that follows it.
-fn with_marker(row: &Row, channel: usize, distance: usize) -> Row {
-    let mut marked = row.clone();
-    let words = [&NINTH[..3], &NINTH].concat();
-    lay(&mut marked.words[channel], row.sav - distance, &words);
-    marked
-}
-
-/// Wiped, the marker's DC is a blanking word. In Y it is 040: 64 user words, and checksum 2C0, worked by hand; in C it is
-/// 200: no user words, and checksum 200, which is there already.
-fn made_whole(row: &Row) -> Vec<Vector> {
-    [(0, 70, 0x2c0), (1, 6, 0x200)]
-        .into_iter()
-        .flat_map(|(channel, last, checksum)| {
-            let marked = with_marker(row, channel, 100);
-            let mut whole = wiped(row);
-            lay(&mut whole.words[channel], row.sav - 100, &NINTH[..3]);
-            whole.words[channel][row.sav - 100 + last] = checksum;
-            [marked.checked(true, 1 << 7), marked.corrected(true, 1, &whole), whole.checked(true, 0)]
-        })
-        .collect()
-}
-
-/// One word too few for the 71 words that 040 asks for in Y.
-fn still_cut(row: &Row) -> [Vector; 2] {
-    let marked = with_marker(row, 0, 70);
-    let mut cut = wiped(row);
-    lay(&mut cut.words[0], row.sav - 70, &NINTH[..3]);
-    [marked.corrected(true, 1, &cut), cut.checked(true, 1 << 7)]
 }

@@ -1,48 +1,45 @@
 //! What comes in the requests of the gate's seeds, and in its bench files, by its place from the start of what is fed at once.
 
-use super::{asked, feed};
+use super::section_ends::{read_file, Reading, Seen};
+use super::walk::{Places, Walk};
+use super::{answered, feed};
+use crate::arguments::Arguments;
 use crate::desk::Desk;
 use crate::functions::*;
+use crate::gate::FILE_SEEDS;
 use crate::generate::code_feeds::ZEROS;
 use crate::generate::files::file;
 use crate::generate::fixed;
 use crate::generate::long_sections::{FEW, RUN};
-use crate::generate::section_ends::{read_file, Reading, Seen};
-use crate::generate::walk::{Places, Walk};
+use crate::generate::sessions::begun;
 use crate::requests::desks::desk_after;
-use crate::session::Session;
-use crate::words::all_words;
+use crate::requests::format_line;
 
 fn of_feeds() -> Places {
     let mut places = Places::default();
-    for asked in asked(&[FEED]) {
+    for asked in answered(&[FEED]) {
         let feed = feed(asked);
-        if let (true, Ok(mut session)) = (feed.numbers.open, feed.numbers.session()) {
-            let mut walk = Walk::of(&feed.numbers);
-            walk.feed(&feed.words, &mut places);
-            let [mut y, mut c] = [(); 2].map(|()| vec![0; 4125]);
-            session.take_words(&feed.words, &mut [&mut y, &mut c]);
-            assert!(walk.is_at(&session.numbers()));
-        }
+        let mut walk = Walk::of(&feed.numbers);
+        walk.feed(&feed.words, &mut places);
+        let after = Arguments::parse(&format_line(&asked.answer[1..]));
+        let after = after.and_then(|mut numbers| numbers.session());
+        assert!(walk.is_at(&after.expect("a session")));
     }
     places
 }
 
 fn of_modules() -> Places {
     let mut places = Places::default();
-    for asked in asked(&[MODULE]) {
-        let mut session = Session::default();
-        if session.begin(asked.request[1]).is_err() {
-            continue;
-        }
+    for asked in answered(&[MODULE]) {
         let mut arguments = asked.arguments(1);
         let lengths = arguments.list().expect("lengths");
         let words = arguments.signal(0).expect("a signal");
-        let mut walk = Walk::of(&session.numbers());
+        let mut walk = Walk::of(&begun(asked.request[1]));
+        let mut refusals = asked.answer[2..].iter();
         let mut left = &words[..];
         for length in lengths.into_iter().map(usize::from).chain([usize::MAX]) {
             let (part, rest) = left.split_at(length.min(left.len()));
-            if all_words(part) {
+            if refusals.next() == Some(&0) {
                 walk.feed(part, &mut places);
             }
             left = rest;
@@ -54,7 +51,8 @@ fn of_modules() -> Places {
 /// Of desks and of single takes.
 fn of_desks() -> Seen {
     let mut seen = Seen::default();
-    for asked in asked(&[DESK]) {
+    // The buffers are the same for all takes, so all are refused or none.
+    for asked in answered(&[DESK]) {
         let mut arguments = asked.arguments(0);
         let lengths = arguments.list().expect("lengths");
         let bytes = arguments.bytes().expect("bytes");
@@ -66,7 +64,7 @@ fn of_desks() -> Seen {
         }
         reading.note_cut(&mut seen);
     }
-    for asked in asked(&[TAKE]).filter(|asked| asked.answer[0] == 0) {
+    for asked in answered(&[TAKE]) {
         let mut arguments = asked.arguments(0);
         let lengths = arguments.list().expect("lengths");
         let bytes = arguments.bytes().expect("bytes");
@@ -133,17 +131,22 @@ fn in_modules_codes_rows_and_zeros_end_at_every_place() {
     assert_zeros(&places, 1);
     assert_ends(&places, 2);
     // Of feeds of each number of words from one to five, and of more, odd and even.
-    for words in [1, 2, 3, 4, 5, 8, 9] {
-        for sign in ["in a sync's zeros", "in an XYZ pair", "with a sync", "with an EAV"] {
-            assert!(places.at(&format!("end {sign}"), words) >= 1, "{sign}, {words}");
+    for sign in [
+        "in a sync's zeros",
+        "in an XYZ pair",
+        "with a sync",
+        "with an EAV",
+    ] {
+        for words in [1, 2, 3, 4, 5, 8, 9] {
+            let come = places.at(&format!("end {sign}"), words);
+            assert!(come >= 1, "{sign}, {words}");
         }
     }
 }
 
 /// About runs of 256 and 1,024 words: so many, one or two more, and one or two less.
-fn about_runs(what: &str, lengths: &[usize]) -> Vec<String> {
-    let numbers = lengths.iter().flat_map(|length| length - 2..=length + 2);
-    numbers.map(|number| format!("{what} {number}")).collect()
+fn about_runs() -> impl Iterator<Item = usize> {
+    (FEW - 2..=FEW + 2).chain(RUN - 2..=RUN + 2)
 }
 
 #[test]
@@ -151,13 +154,10 @@ fn at_desks_syncs_end_at_every_place_and_sections_about_a_run() {
     let Seen { places, ends } = of_desks();
     assert_at_every_place(&places, &SYNCS, 2);
     assert_at_every_place(&places, &["opens"], 1);
-    ends.assert_come(about_runs("section", &[FEW, RUN]), 1);
-    ends.assert_come(about_runs("lent", &[FEW, RUN]), 1);
-    ends.assert_come(&about_runs("bad", &[RUN])[..4], 1);
-    ends.assert_come(["cut 0", "cut 0 and a half", "cut 1", "cut 1 and a half"], 1);
-    for what in ["section", "lent", "bad"] {
-        ends.assert_come((0..=2).map(|number| format!("{what} {number}")), 1);
-    }
+    ends.assert_come("section ", (0..=2).chain(about_runs()), 1);
+    ends.assert_come("lent ", (0..=2).chain(about_runs()), 1);
+    ends.assert_come("bad ", (0..=2).chain(RUN - 2..=RUN + 1), 1);
+    ends.assert_come("cut ", ["0", "0 and a half", "1", "1 and a half"], 1);
 }
 
 #[test]
@@ -171,26 +171,26 @@ fn in_fixed_files_all_ends_at_every_place() {
         assert_at_every_place(&seen.places, signs, 1);
     }
     assert_zeros(&seen.places, 20);
-    seen.ends.assert_come(about_runs("section", &[FEW, RUN]), 1);
-    seen.ends.assert_come(&about_runs("bad", &[RUN])[..4], 1);
-    for number in [RUN - 2, RUN - 1, RUN, RUN + 1] {
-        let cuts = ["", " and a half"].map(|half| format!("cut {number}{half}"));
-        seen.ends.assert_come(cuts, 1);
+    seen.ends.assert_come("section ", about_runs(), 1);
+    for number in RUN - 2..=RUN + 1 {
+        seen.ends.assert_come("bad ", [number], 1);
+        let cut = format!("cut {number}");
+        seen.ends.assert_come(&cut, ["", " and a half"], 1);
     }
     for left in [1, 2] {
-        let reads = [false, true].map(|half| format!("read to {left} left, amid a word {half}"));
-        seen.ends.assert_come(reads, 1);
+        let read = format!("read to {left} left, amid a word ");
+        seen.ends.assert_come(&read, [false, true], 1);
     }
 }
 
 #[test]
 fn in_files_of_seeds_syncs_and_rows_end_at_every_place() {
     let mut seen = Seen::default();
-    let files = (1..=300).map(|seed| file(seed).bytes);
+    let files = (1..=FILE_SEEDS).map(|seed| file(seed).bytes);
     for file in files.filter(|file| file.len() < 300_000) {
         read_file(&file, &mut seen);
     }
     assert_at_every_place(&seen.places, &SYNCS, 10);
     assert_at_every_place(&seen.places, &EVENTS[..3], 1);
-    seen.ends.assert_come((0..=3).map(|number| format!("section {number}")), 1);
+    seen.ends.assert_come("section ", 0..=3, 1);
 }

@@ -35,7 +35,10 @@ fn reasons(asked: &Asked) -> Reasons {
     Ok(match asked.request[0] {
         RASTER_ROW => vec![(4, given.number()? > 11)],
         V_AND_F | LINE_WORDS => of_line(given.number()?, given.number()?),
-        READ_LINE => vec![(4, given.number()? > 11), (3, !all_words(&[given.word()?, given.word()?]))],
+        READ_LINE => vec![
+            (4, given.number()? > 11),
+            (3, !all_words(&[given.word()?, given.word()?])),
+        ],
         CRC_AFTER_WORDS => vec![(3, given.number()? > 0x3ffff || !all_words(&given.list()?))],
         SCRAMBLE | UNSCRAMBLE => {
             let (history, words, output) = (given.word()?, given.list()?, given.list()?);
@@ -93,11 +96,12 @@ fn of_row(function: u32, given: &mut Arguments) -> Reasons {
 fn of_built_row(given: &mut Arguments) -> Reasons {
     let (code, line) = (given.number()?, given.number()?);
     let carry = given.carry()?.unwrap_or_default();
-    let [active, blanking, buffers] = [(); 3].map(|()| [(); 2].map(|()| given.runs().expect("runs")));
+    let [active, blanking, buffers] =
+        [(); 3].map(|()| [(); 2].map(|()| given.runs().expect("runs")));
     let raster = raster_of(code).unwrap_or(TABLE[0]);
     let [total, all] = [raster.total, raster.active].map(|count| count as usize);
-    let lengths =
-        active.iter().any(|words| words.len() != all) || blanking.iter().any(|words| words.len() > total - all - 12);
+    let lengths = active.iter().any(|words| words.len() != all)
+        || blanking.iter().any(|words| words.len() > total - all - 12);
     let above = carry.iter().any(|&register| register > 0x3ffff)
         || !active.iter().chain(&blanking).all(|words| all_words(words));
     let short = buffers.iter().any(|words| words.len() < total);
@@ -120,7 +124,10 @@ fn is_refused(numbers: &Numbers) -> bool {
 }
 
 /// That the first reason is given, if any, and that each reason comes alone and each two together.
-fn assert_all_come(requests: impl Iterator<Item = (&'static Asked, Vec<(u32, bool)>)>, refusals: &[u32]) {
+fn assert_all_come(
+    requests: impl Iterator<Item = (&'static Asked, Vec<(u32, bool)>)>,
+    refusals: &[u32],
+) {
     let mut come = BTreeSet::new();
     for (asked, reasons) in requests {
         let applying = reasons.into_iter().filter(|(_, applies)| *applies);
@@ -133,7 +140,7 @@ fn assert_all_come(requests: impl Iterator<Item = (&'static Asked, Vec<(u32, boo
     for (place, &first) in refusals.iter().enumerate() {
         assert!(come.contains(&vec![first]), "{first}: {come:?}");
         for second in &refusals[place + 1..] {
-            let both = |reasons: &Vec<u32>| [&first, second].iter().all(|one| reasons.contains(one));
+            let both = |reasons: &Vec<u32>| reasons.contains(&first) && reasons.contains(second);
             assert!(come.iter().any(both), "{first} and {second}: {come:?}");
         }
     }
@@ -147,12 +154,14 @@ fn every_refusal_and_every_two_come() {
     }
 }
 
-/// "7 where it reads words and its session is not running or not in range, else 1 where a buffer has fewer than 4,125 words"
+/// "7 where the desk reads words and its session is not running or not in range, else 1 where a
+/// buffer has fewer than 4,125 words"
 #[test]
 fn takes_are_refused_with_7_before_1() {
     let with_reasons = |asked: &'static Asked| {
         let mut given = asked.arguments(0);
-        let (lengths, bytes) = (given.list().expect("lengths"), given.bytes().expect("bytes"));
+        let lengths = given.list().expect("lengths");
+        let bytes = given.bytes().expect("bytes");
         let numbers = given.session().expect("a session");
         let (desk, _) = desk_after(&lengths, &bytes);
         let mut short = || given.runs().expect("runs").len() < 4125;

@@ -1,6 +1,6 @@
 //! What the requests of rows and packets hold.
 
-use super::{asked, Asked};
+use super::{answered, asked, Asked};
 use crate::check::check;
 use crate::correct::correct;
 use crate::functions::*;
@@ -14,7 +14,8 @@ use std::collections::BTreeSet;
 
 #[test]
 fn every_flag_comes_alone_and_rows_without_a_flag_come() {
-    let come: BTreeSet<u32> = asked(&[CHECK_ROW]).map(|asked| asked.answer[1]).collect();
+    let checked = answered(&[CHECK_ROW]);
+    let come: BTreeSet<u32> = checked.map(|asked| asked.answer[1]).collect();
     for flags in (0..9).map(|bit| 1 << bit).chain([0]) {
         assert!(come.contains(&flags), "{flags:x}");
     }
@@ -43,15 +44,15 @@ fn assert_at_every_place(places: impl Iterator<Item = usize>, times: u32) {
 fn a_000_comes_at_every_place_after_a_stretch_without_one() {
     let rows = asked(&[EXTRACT]).filter_map(|asked| read_row(asked, 3));
     let stretches = rows.flat_map(|(layout, channels)| {
-        let regions = layout.packet_regions().into_iter();
-        let regions: Vec<Vec<u16>> =
-            regions.flat_map(|region| channels.each_ref().map(|words| words[region.clone()].to_vec())).collect();
-        let lengths = |region: &Vec<u16>| -> Vec<usize> {
-            let ended = region.split_inclusive(|&word| word == 0);
-            let ended = ended.filter(|words| words.ends_with(&[0]));
-            ended.map(|words| words.len() - 1).collect()
-        };
-        regions.iter().flat_map(lengths).collect::<Vec<usize>>()
+        let mut lengths = Vec::new();
+        for words in &channels {
+            for region in layout.packet_regions() {
+                let ended = words[region].split_inclusive(|&word| word == 0);
+                let ended = ended.filter(|words| words.ends_with(&[0]));
+                lengths.extend(ended.map(|words| words.len() - 1));
+            }
+        }
+        lengths
     });
     assert_at_every_place(stretches.filter(|&length| length >= SIXTEEN), 3);
 }
@@ -59,14 +60,13 @@ fn a_000_comes_at_every_place_after_a_stretch_without_one() {
 #[test]
 fn every_reserved_code_comes_in_a_picture_and_at_every_place() {
     let rows = asked(&[CHECK_ROW]).filter_map(|asked| read_row(asked, 5));
-    let pictures = rows.filter(|(layout, _)| !layout.v);
-    let active: Vec<Vec<u16>> =
-        pictures.flat_map(|(layout, channels)| channels.map(|words| words[layout.active()].to_vec())).collect();
-    let reserved = |words: &'_ Vec<u16>| -> Vec<(usize, u16)> {
-        let words = words.iter().copied().enumerate();
-        words.filter(|(_, word)| is_reserved(*word)).collect()
-    };
-    let found: Vec<(usize, u16)> = active.iter().flat_map(reserved).collect();
+    let mut found = Vec::new();
+    for (layout, channels) in rows.filter(|(layout, _)| !layout.v) {
+        for words in channels {
+            let active = words[layout.active()].iter().copied().enumerate();
+            found.extend(active.filter(|(_, word)| is_reserved(*word)));
+        }
+    }
     for code in (0..4).chain(0x3fc..0x400) {
         let come = found.iter().filter(|(_, word)| *word == code);
         assert!(come.count() >= 3, "{code:x}");

@@ -1,6 +1,6 @@
 //! What the requests of sessions hold.
 
-use super::{asked, feed, Asked, Tally};
+use super::{answered, asked, feed, Asked, Tally};
 use crate::arguments::Arguments;
 use crate::functions::*;
 use crate::layout::{Layout, CRC, EAV, LINE};
@@ -8,6 +8,10 @@ use crate::raster::raster_of;
 use crate::requests::format_line;
 use crate::session::Numbers;
 use crate::words::is_word;
+use std::ops::Range;
+
+/// Where rows and faults stand in a request of a feed.
+const COUNTS: Range<usize> = 14..16;
 
 /// The session before a call and after it, which stands at this place of the answer.
 fn sessions(asked: &Asked, place: usize) -> [Numbers; 2] {
@@ -17,18 +21,22 @@ fn sessions(asked: &Asked, place: usize) -> [Numbers; 2] {
     [given, after].map(|numbers| numbers.expect("a session"))
 }
 
+/// How many rows and faults a feed counts: from counts of 0, for at the ceiling they stay.
+fn counted(asked: &Asked) -> [u32; 2] {
+    let mut request = asked.request.clone();
+    request[COUNTS].fill(0);
+    let [_, after] = sessions(&Asked::of(request), 1);
+    [after.rows, after.faults]
+}
+
 /// What a feed did to a session, as its numbers tell.
 fn signs(asked: &Asked) -> Vec<String> {
     let [before, after] = sessions(asked, 1);
-    let ceiling = |count: u32| {
-        if count == u32::MAX {
-            " at the ceiling"
-        } else {
-            ""
-        }
+    let ceiling = |count| match count {
+        u32::MAX => " at the ceiling",
+        _ => "",
     };
-    let more = |before: u32, after: u32| after.wrapping_sub(before);
-    let (rows, faults) = (more(before.rows, after.rows), more(before.faults, after.faults));
+    let [rows, faults] = counted(asked);
     let mut signs = vec![
         format!("rows +{rows}{}", ceiling(before.rows)),
         format!("faults +{faults}{}", ceiling(before.faults)),
@@ -61,31 +69,37 @@ fn parts_above(asked: &Asked) -> impl Iterator<Item = &'static str> {
         ("SAV", layout.sav()),
         ("active words", layout.active()),
     ];
-    let above = move |part: &std::ops::Range<usize>| {
+    let above = move |part: &Range<usize>| {
         let part = part.start..part.end.min(come);
         let mut buffers = feed.buffers.iter();
         buffers.any(|words| words[part.clone()].iter().any(|&word| !is_word(word)))
     };
-    let parts = parts.into_iter().filter(move |(_, part)| part.start < come && above(part));
+    let parts = parts
+        .into_iter()
+        .filter(move |(_, part)| part.start < come && above(part));
     parts.map(|(name, _)| name)
 }
 
 #[test]
 fn everything_happens_to_rows_of_feeds() {
-    let running = asked(&[FEED]).filter(|asked| asked.answer[0] == 0);
-    let tally = Tally::of(running.flat_map(signs));
-    tally.assert_come(["rows +0", "rows +1", "faults +0", "faults +1", "faults +2"], 10);
-    tally.assert_come(["rows +0 at the ceiling", "faults +0 at the ceiling"], 10);
-    tally.assert_come(["rows +1, faults +0", "rows +1, faults +1", "rows +0, faults +1"], 10);
-    tally.assert_come(["line taken", "line 1 after the last"], 10);
-    let parts = ["EAV", "line words", "CRC words", "blanking", "SAV", "active words"];
-    tally.assert_come(parts.map(|part| format!("word above 3FF in the {part}")), 3);
+    let tally = Tally::of(answered(&[FEED]).flat_map(signs));
+    tally.assert_come("rows +", ["0", "1", "1 at the ceiling"], 10);
+    tally.assert_come("faults +", ["0", "1", "2", "1 at the ceiling"], 10);
+    tally.assert_come(
+        "rows +",
+        ["1, faults +0", "1, faults +1", "0, faults +1"],
+        10,
+    );
+    tally.assert_come("line ", ["taken", "1 after the last"], 10);
+    let parts = ["EAV", "line words", "CRC words", "blanking", "SAV"];
+    tally.assert_come("word above 3FF in the ", parts, 3);
+    tally.assert_come("word above 3FF in the ", ["active words"], 3);
 }
 
 #[test]
 fn every_verdict_comes() {
     let ends = Tally::of(asked(&[END]).map(|asked| asked.answer[4].to_string()));
-    ends.assert_come(0..=4, 20);
+    ends.assert_come("", 0..=4, 20);
     // No request has the words of N rows.
     let modules = asked(&[MODULE]).flat_map(|asked| {
         let feeds = asked.answer[1] as usize;
@@ -105,11 +119,12 @@ fn every_verdict_comes() {
         feeds.chain(counts).collect::<Vec<String>>()
     });
     let modules = Tally::of(modules);
-    modules.assert_come((1..=11).map(|raster| format!("raster {raster}")), 5);
-    modules.assert_come((0..=3).map(|number| format!("rows {number}")), 3);
-    modules.assert_come((0..=4).map(|number| format!("faults {number}")), 1);
-    modules.assert_come((0..=3).map(|verdict| format!("verdict {verdict}")), 5);
-    modules.assert_come(["feed 0", "feed 1", "feed 3", "feed 7", "goes on true"], 10);
+    modules.assert_come("raster ", 1..=11, 5);
+    modules.assert_come("rows ", 0..=3, 3);
+    modules.assert_come("faults ", 0..=4, 1);
+    modules.assert_come("verdict ", 0..=3, 5);
+    modules.assert_come("feed ", [0, 1, 3, 7], 10);
+    modules.assert_come("goes on ", [true], 10);
 }
 
 type Change = fn(&mut Numbers);
@@ -122,7 +137,9 @@ fn out_of_range(numbers: &Numbers) -> &'static str {
         ("ahead", |numbers| numbers.ahead = 0),
         ("pairs", |numbers| numbers.pairs = 4),
         ("bit", |numbers| numbers.bit = 0),
-        ("carry without a line", |numbers| numbers.line = numbers.line.max(1)),
+        ("carry without a line", |numbers| {
+            numbers.line = numbers.line.max(1)
+        }),
         ("line", |numbers| numbers.line = numbers.line.min(1)),
         ("carry", |numbers| numbers.carry = None),
         ("raster", |numbers| numbers.raster = numbers.open.into()),
@@ -142,8 +159,9 @@ fn every_number_is_out_of_range() {
         let sessions = sessions.map(|numbers| numbers.expect("a session"));
         let bad = sessions.filter(|numbers| !numbers.in_range());
         let tally = Tally::of(bad.map(|numbers| out_of_range(&numbers).to_string()));
-        tally.assert_come(["raster", "history", "last", "ahead", "pairs", "bit", "line"], 1);
-        tally.assert_come(["carry", "carry without a line", "several"], 1);
+        tally.assert_come("", ["raster", "history", "last", "ahead", "pairs"], 1);
+        tally.assert_come("", ["bit", "line", "several"], 1);
+        tally.assert_come("carry", ["", " without a line"], 1);
     }
 }
 

@@ -1,190 +1,76 @@
 //! Jobs that are refused: each section wrong in each way, two faults in one section or word in each order, and cuts.
 
-use super::bad_job::{BadJob, COUNT, OPTIONS, TAG, WORDS};
-use super::{Fault, Notes};
+use super::bad_job::*;
+use super::{Kind, Notes};
 use crate::job::Job;
 use crate::random::Random;
 
-/// All of them, with their names.
-pub fn all() -> Vec<Fault<BadJob>> {
-    [of_few_words(), ABOUT_RUNS.to_vec()].concat()
-}
+type Step = fn(&mut Random, &mut BadJob);
+/// A name, and what is done to a job, one after the other.
+pub type Fault = (Kind, &'static [Step]);
+
+pub const ALL: [Fault; 39] = [
+    ("bad tag count", &[tag_count]),
+    ("bad tag byte", &[tag_byte]),
+    ("bad options count", &[option_count]),
+    ("bad raster", &[raster]),
+    ("bad wipe", &[wipe]),
+    ("bad word", &[word]),
+    ("words count a little too high", &[more_words]),
+    ("words count far too high", &[many_words]),
+    ("words count too low", &[fewer_words]),
+    ("cut in the tag's count", &[cut_in_count::<TAG>]),
+    ("cut in the tag", &[cut_in::<TAG>]),
+    ("cut in the options' count", &[cut_in_count::<OPTIONS>]),
+    ("cut in the options", &[cut_in::<OPTIONS>]),
+    ("cut in the words' count", &[cut_in_count::<WORDS>]),
+    ("cut in the words", &[cut_in::<WORDS>]),
+    ("bad tag count and byte", &[tag_count, tag_byte]),
+    ("bad tag count, then a cut", &[tag_count, cut_in::<TAG>]),
+    ("two bad tag bytes", &[tag_byte, tag_byte]),
+    ("bad tag byte, then a cut", &[tag_byte, cut_after::<TAG>]),
+    ("cut before a bad tag byte", &[tag_byte, cut_before::<TAG>]),
+    ("bad options count and raster", &[option_count, raster]),
+    ("bad options count and wipe", &[option_count, wipe]),
+    (
+        "bad options count, then a cut",
+        &[option_count, cut_in::<OPTIONS>],
+    ),
+    ("bad raster and wipe", &[raster, wipe]),
+    ("bad raster, then a cut", &[raster, cut_after::<OPTIONS>]),
+    ("cut before a bad raster", &[raster, cut_before::<OPTIONS>]),
+    ("two bad words", &[word, word]),
+    ("bad word, then a cut", &[word, cut_after::<WORDS>]),
+    ("cut in a bad word", &[word, cut_in_bad_word]),
+    ("cut before a bad word", &[word, cut_before::<WORDS>]),
+    ("words count too high, and a bad word", &[more_words, word]),
+    (
+        "words count far too high, and a bad word",
+        &[many_words, word],
+    ),
+    ("words count too low, and a bad word", &[fewer_words, word]),
+    ("bad tag and options", &[tag_byte, raster]),
+    ("bad tag and word", &[tag_byte, word]),
+    ("bad raster and word", &[raster, word]),
+    (
+        "bad raster, then a cut in the words",
+        &[raster, cut_in::<WORDS>],
+    ),
+    ("bad word about a run's end", &[word_about_a_run]),
+    (
+        "cut about a run's end, and a bad word",
+        &[word_about_a_run, cut_about_bad_word],
+    ),
+];
 
 /// Those that do not make a job longer.
-pub fn of_few_words() -> Vec<Fault<BadJob>> {
-    let faults = [&SINGLE[..], &CUTS, &TWO_IN_TAG, &TWO_IN_OPTIONS, &TWO_IN_WORDS, &IN_TWO_SECTIONS];
-    faults.concat()
-}
+pub const OF_FEW_WORDS: &[Fault] = ALL.split_at(ALL.len() - 2).0;
 
 /// The job once it is spoilt in one of these ways.
-pub fn bad_job(random: &mut Random, job: Job, faults: &[Fault<BadJob>], notes: &mut Notes) -> BadJob {
+pub fn bad_job(random: &mut Random, job: Job, faults: &[Fault], notes: &mut Notes) -> BadJob {
     let mut bad = BadJob::of(job);
-    let spoil = notes.in_turn(faults);
-    spoil(random, &mut bad);
+    for step in notes.in_turn(faults) {
+        step(random, &mut bad);
+    }
     bad
 }
-
-const SINGLE: [Fault<BadJob>; 9] = [
-    ("bad tag count", |random, bad| bad.spoil_tag_count(random)),
-    ("bad tag byte", |random, bad| {
-        bad.spoil_tag(random);
-    }),
-    ("bad options count", |random, bad| bad.spoil_option_count(random)),
-    ("bad raster", |random, bad| bad.spoil_raster(random)),
-    ("bad wipe", |random, bad| bad.spoil_wipe(random)),
-    ("bad word", |random, bad| {
-        bad.spoil_word(random);
-    }),
-    ("words count a little too high", |random, bad| {
-        bad.more_words(random.between(1, 3));
-    }),
-    ("words count far too high", |random, bad| bad.many_words(random)),
-    ("words count too low", |random, bad| bad.fewer_words(random)),
-];
-
-const CUTS: [Fault<BadJob>; 6] = [
-    ("cut in the tag's count", |random, bad| {
-        cut_in_count(random, bad, TAG);
-    }),
-    ("cut in the tag", |random, bad| cut(random, bad, TAG)),
-    ("cut in the options' count", |random, bad| {
-        cut_in_count(random, bad, OPTIONS);
-    }),
-    ("cut in the options", |random, bad| cut(random, bad, OPTIONS)),
-    ("cut in the words' count", |random, bad| {
-        cut_in_count(random, bad, WORDS);
-    }),
-    ("cut in the words", |random, bad| cut(random, bad, WORDS)),
-];
-
-/// After some bytes of a count; after none of the tag's there would be no job.
-fn cut_in_count(random: &mut Random, bad: &mut BadJob, section: usize) {
-    let start = bad.section(section).start;
-    let first = start + usize::from(section == TAG);
-    bad.cut_in(random, first..start + COUNT);
-}
-
-/// Before the last byte of a section.
-fn cut(random: &mut Random, bad: &mut BadJob, section: usize) {
-    let section = bad.section(section);
-    bad.cut_in(random, section.start + COUNT..section.end);
-}
-
-const TWO_IN_TAG: [Fault<BadJob>; 5] = [
-    ("bad tag count and byte", |random, bad| {
-        bad.spoil_tag_count(random);
-        bad.spoil_tag(random);
-    }),
-    ("bad tag count, then a cut", |random, bad| {
-        bad.spoil_tag_count(random);
-        cut(random, bad, TAG);
-    }),
-    ("two bad tag bytes", |random, bad| {
-        bad.spoil_tag(random);
-        bad.spoil_tag(random);
-    }),
-    ("bad tag byte, then a cut", |random, bad| {
-        let place = bad.spoil_tag(random);
-        let end = bad.section(TAG).end;
-        bad.cut_in(random, place + 1..end);
-    }),
-    ("cut before a bad tag byte", |random, bad| {
-        let place = bad.spoil_tag(random);
-        let start = bad.section(TAG).start;
-        bad.cut_in(random, start + COUNT..place + 1);
-    }),
-];
-
-const TWO_IN_OPTIONS: [Fault<BadJob>; 6] = [
-    ("bad options count and raster", |random, bad| {
-        bad.spoil_option_count(random);
-        bad.spoil_raster(random);
-    }),
-    ("bad options count and wipe", |random, bad| {
-        bad.spoil_option_count(random);
-        bad.spoil_wipe(random);
-    }),
-    ("bad options count, then a cut", |random, bad| {
-        bad.spoil_option_count(random);
-        cut(random, bad, OPTIONS);
-    }),
-    ("bad raster and wipe", |random, bad| {
-        bad.spoil_raster(random);
-        bad.spoil_wipe(random);
-    }),
-    ("bad raster, then a cut", |random, bad| {
-        bad.spoil_raster(random);
-        let start = bad.section(OPTIONS).start;
-        bad.cut_in(random, start + COUNT + 1..start + COUNT + 2);
-    }),
-    ("cut before a bad raster", |random, bad| {
-        bad.spoil_raster(random);
-        let start = bad.section(OPTIONS).start;
-        bad.cut_in(random, start..start + COUNT + 1);
-    }),
-];
-
-const TWO_IN_WORDS: [Fault<BadJob>; 7] = [
-    ("two bad words", |random, bad| {
-        bad.spoil_word(random);
-        bad.spoil_word(random);
-    }),
-    ("bad word, then a cut", |random, bad| {
-        let place = bad.spoil_word(random);
-        let end = bad.section(WORDS).end;
-        bad.cut_in(random, place + 2..end);
-    }),
-    ("cut in a bad word", |random, bad| {
-        let place = bad.spoil_word(random);
-        bad.cut_in(random, place + 1..place + 2);
-    }),
-    ("cut before a bad word", |random, bad| {
-        let place = bad.spoil_word(random);
-        let start = bad.section(WORDS).start;
-        bad.cut_in(random, start + COUNT..place + 1);
-    }),
-    ("words count too high, and a bad word", |random, bad| {
-        bad.more_words(random.between(1, 3));
-        bad.spoil_word(random);
-    }),
-    ("words count far too high, and a bad word", |random, bad| {
-        bad.many_words(random);
-        bad.spoil_word(random);
-    }),
-    ("words count too low, and a bad word", |random, bad| {
-        bad.fewer_words(random);
-        bad.spoil_word(random);
-    }),
-];
-
-const IN_TWO_SECTIONS: [Fault<BadJob>; 4] = [
-    ("bad tag and options", |random, bad| {
-        bad.spoil_tag(random);
-        bad.spoil_raster(random);
-    }),
-    ("bad tag and word", |random, bad| {
-        bad.spoil_tag(random);
-        bad.spoil_word(random);
-    }),
-    ("bad raster and word", |random, bad| {
-        bad.spoil_raster(random);
-        bad.spoil_word(random);
-    }),
-    ("bad raster, then a cut in the words", |random, bad| {
-        bad.spoil_raster(random);
-        cut(random, bad, WORDS);
-    }),
-];
-
-/// In sections of about as many words as may be taken at once.
-const ABOUT_RUNS: [Fault<BadJob>; 2] = [
-    ("bad word about a run's end", |random, bad| {
-        let place = bad.place_about_a_run(random);
-        bad.spoil_word_at(random, place);
-    }),
-    ("cut about a run's end, and a bad word", |random, bad| {
-        let place = bad.place_about_a_run(random);
-        let start = bad.spoil_word_at(random, place);
-        bad.cut_in(random, start - 3..start + 4);
-    }),
-];

@@ -12,22 +12,10 @@ use crate::words::WORD_BITS;
 const EAV_BITS: usize = EAV.end * PAIR_BITS;
 
 pub const FAULTS: [Fault<Signal>; 18] = [
-    ("lost bit", |random, signal| {
-        let place = signal.place(random);
-        lose(&mut signal.bits, place, 1);
-    }),
-    ("doubled bit", |random, signal| {
-        let place = signal.place(random);
-        double(&mut signal.bits, place, 1);
-    }),
-    ("lost half a pair", |random, signal| {
-        let place = signal.place(random);
-        lose(&mut signal.bits, place, WORD_BITS);
-    }),
-    ("doubled half a pair", |random, signal| {
-        let place = signal.place(random);
-        double(&mut signal.bits, place, WORD_BITS);
-    }),
+    ("lost bit", lost::<1>),
+    ("doubled bit", doubled::<1>),
+    ("lost half a pair", lost::<WORD_BITS>),
+    ("doubled half a pair", doubled::<WORD_BITS>),
     ("sync at another alignment", |random, signal| {
         let off = random.between(1, 19) as usize;
         code_amid(random, signal, off);
@@ -50,10 +38,10 @@ pub const FAULTS: [Fault<Signal>; 18] = [
         let place = code_amid(random, signal, off);
         stop_about(random, signal, place + SYNC_BITS);
     }),
-    ("end with a sync about the T-th pair's end", |random, signal| {
-        let place = code_about_the_end(random, signal);
-        stop_about(random, signal, place + SYNC_BITS);
-    }),
+    (
+        "end with a sync about the T-th pair's end",
+        stop_with_a_code,
+    ),
     ("end with an EAV", |random, signal| {
         let end = signal.start(random) + EAV_BITS;
         stop_about(random, signal, end);
@@ -78,6 +66,21 @@ pub const FAULTS: [Fault<Signal>; 18] = [
         overlay_some(random, signal, &ones);
     }),
 ];
+
+fn lost<const COUNT: usize>(random: &mut Random, signal: &mut Signal) {
+    let place = signal.place(random);
+    lose(&mut signal.bits, place, COUNT);
+}
+
+fn doubled<const COUNT: usize>(random: &mut Random, signal: &mut Signal) {
+    let place = signal.place(random);
+    double(&mut signal.bits, place, COUNT);
+}
+
+fn stop_with_a_code(random: &mut Random, signal: &mut Signal) {
+    let place = code_about_the_end(random, signal);
+    stop_about(random, signal, place + SYNC_BITS);
+}
 
 /// A sync with an EAV's code or another.
 fn lay_code(random: &mut Random, signal: &mut Signal, place: usize) {

@@ -14,22 +14,10 @@ pub const FAULTS: [Fault<Vec<bool>>; 11] = [
         let place = somewhere(random, cable);
         cable.iter_mut().skip(place).take(1).for_each(flip);
     }),
-    ("lost cable bit", |random, cable| {
-        let place = somewhere(random, cable);
-        lose(cable, place, 1);
-    }),
-    ("doubled cable bit", |random, cable| {
-        let place = somewhere(random, cable);
-        double(cable, place, 1);
-    }),
-    ("lost cable word", |random, cable| {
-        let place = somewhere(random, cable);
-        lose(cable, place, WORD_BITS);
-    }),
-    ("doubled cable word", |random, cable| {
-        let place = somewhere(random, cable);
-        double(cable, place, WORD_BITS);
-    }),
+    ("lost cable bit", lost::<1>),
+    ("doubled cable bit", doubled::<1>),
+    ("lost cable word", lost::<WORD_BITS>),
+    ("doubled cable word", doubled::<WORD_BITS>),
     ("lost cable words", |random, cable| {
         let words = random.between(2, 4000) as usize;
         let place = somewhere(random, cable);
@@ -57,6 +45,16 @@ pub const FAULTS: [Fault<Vec<bool>>; 11] = [
         cable.iter_mut().for_each(flip);
     }),
 ];
+
+fn lost<const COUNT: usize>(random: &mut Random, cable: &mut Vec<bool>) {
+    let place = somewhere(random, cable);
+    lose(cable, place, COUNT);
+}
+
+fn doubled<const COUNT: usize>(random: &mut Random, cable: &mut Vec<bool>) {
+    let place = somewhere(random, cable);
+    double(cable, place, COUNT);
+}
 
 fn flip(bit: &mut bool) {
     *bit ^= true;

@@ -5,41 +5,27 @@ use crate::generate::rows::Row;
 use crate::layout::{BLANKING, C, EAV, Y};
 use crate::random::Random;
 use crate::timing::{read_xyz, xyz, SYNC_WORDS};
-use std::ops::Range;
+use std::ops::{Range, RangeInclusive};
 
 pub const FAULTS: [Fault<Row>; 16] = [
     ("EAV missing", |_, row| blank(row, EAV)),
     ("EAV's sync damaged", damage_eav_sync),
-    ("EAV's XYZ broken in both channels", |random, row| {
-        break_eav_xyz(random, row, &[Y, C]);
-    }),
-    ("EAV's XYZ broken in Y", |random, row| {
-        break_eav_xyz(random, row, &[Y]);
-    }),
-    ("EAV's XYZ broken in C", |random, row| {
-        break_eav_xyz(random, row, &[C]);
-    }),
-    ("another EAV code in Y", |random, row| {
-        other_f_or_v(random, row, &[Y]);
-    }),
-    ("another EAV code in C", |random, row| {
-        other_f_or_v(random, row, &[C]);
-    }),
+    ("EAV's XYZ broken in both channels", break_eav_xyz::<Y, C>),
+    ("EAV's XYZ broken in Y", break_eav_xyz::<Y, Y>),
+    ("EAV's XYZ broken in C", break_eav_xyz::<C, C>),
+    ("another EAV code in Y", other_f_or_v::<Y>),
+    ("another EAV code in C", other_f_or_v::<C>),
     ("SAV code in place of EAV's", |_, row| {
-        change_eav_xyz(row, &[Y, C], |f, v, h| (f, v, !h));
+        change_xyz(row, Y..=C, H)
     }),
     ("SAV code in place of EAV's in Y", |_, row| {
-        change_eav_xyz(row, &[Y], |f, v, h| (f, v, !h));
+        change_xyz(row, Y..=Y, H)
     }),
     ("SAV code in place of EAV's in C", |_, row| {
-        change_eav_xyz(row, &[C], |f, v, h| (f, v, !h));
+        change_xyz(row, C..=C, H)
     }),
-    ("F wrong", |_, row| {
-        change_eav_xyz(row, &[Y, C], |f, v, h| (!f, v, h));
-    }),
-    ("V wrong", |_, row| {
-        change_eav_xyz(row, &[Y, C], |f, v, h| (f, !v, h));
-    }),
+    ("F wrong", |_, row| change_xyz(row, Y..=C, F)),
+    ("V wrong", |_, row| change_xyz(row, Y..=C, V)),
     ("SAV damaged", damage_sav),
     ("SAV missing", |_, row| blank(row, row.head.layout().sav())),
     ("EAV code in place of SAV's", |_, row| {
@@ -51,6 +37,12 @@ pub const FAULTS: [Fault<Row>; 16] = [
 
 /// The place of the XYZ word.
 const XYZ: usize = EAV.end - 1;
+
+/// Which of F, V and H become others.
+type Changed = [bool; 3];
+const F: Changed = [true, false, false];
+const V: Changed = [false, true, false];
+const H: Changed = [false, false, true];
 
 fn blank(row: &mut Row, part: Range<usize>) {
     for (words, blanking) in row.words.iter_mut().zip(BLANKING) {
@@ -70,27 +62,23 @@ fn damage_sav(random: &mut Random, row: &mut Row) {
 }
 
 /// One bit: such a word is no code at all.
-fn break_eav_xyz(random: &mut Random, row: &mut Row, channels: &[usize]) {
+fn break_eav_xyz<const FIRST: usize, const LAST: usize>(random: &mut Random, row: &mut Row) {
     let bit = 1 << random.below(10);
-    for &channel in channels {
-        row.words[channel][XYZ] ^= bit;
+    for words in &mut row.words[FIRST..=LAST] {
+        words[XYZ] ^= bit;
     }
 }
 
-fn other_f_or_v(random: &mut Random, row: &mut Row, channels: &[usize]) {
-    let other = random.pick(&[(true, false), (false, true), (true, true)]);
-    change_eav_xyz(row, channels, |f, v, h| (f ^ other.0, v ^ other.1, h));
+fn other_f_or_v<const CHANNEL: usize>(random: &mut Random, row: &mut Row) {
+    let changed = random.pick(&[F, V, [true, true, false]]);
+    change_xyz(row, CHANNEL..=CHANNEL, changed);
 }
 
-type Fvh = (bool, bool, bool);
-
-fn change_eav_xyz(row: &mut Row, channels: &[usize], change: impl Fn(bool, bool, bool) -> Fvh) {
-    for &channel in channels {
-        let word = &mut row.words[channel][XYZ];
+fn change_xyz(row: &mut Row, channels: RangeInclusive<usize>, [in_f, in_v, in_h]: Changed) {
+    for words in &mut row.words[channels] {
         // One that was broken before stays so.
-        if let Ok(Some((f, v, h))) = read_xyz(*word) {
-            let (f, v, h) = change(f, v, h);
-            *word = xyz(f, v, h);
+        if let Ok(Some((f, v, h))) = read_xyz(words[XYZ]) {
+            words[XYZ] = xyz(f ^ in_f, v ^ in_v, h ^ in_h);
         }
     }
 }

@@ -12,8 +12,8 @@ pub const FAULTS: [Fault<Row>; 8] = [
     ("flipped bit of a word", flip),
     ("flipped bit of an active word", flip_active),
     ("reserved code in the active words", reserve),
-    ("wrong checksum in Y", |random, row| wrong_checksum(random, row, Y)),
-    ("wrong checksum in C", |random, row| wrong_checksum(random, row, C)),
+    ("wrong checksum in Y", wrong_checksum::<Y>),
+    ("wrong checksum in C", wrong_checksum::<C>),
     ("packet whose DC does not fit", |random, row| {
         end_in_a_packet(random, row, MARKER.len()..USER);
     }),
@@ -44,7 +44,7 @@ fn reserve(random: &mut Random, row: &mut Row) {
 }
 
 /// A packet with one bit of its checksum wrong, often bit 9.
-fn wrong_checksum(random: &mut Random, row: &mut Row, channel: usize) {
+fn wrong_checksum<const CHANNEL: usize>(random: &mut Random, row: &mut Row) {
     let region = region(random, row);
     let pair = pieces::pair(random);
     let mut packet = pieces::packet(random, pair);
@@ -52,7 +52,7 @@ fn wrong_checksum(random: &mut Random, row: &mut Row, channel: usize) {
     let last = packet.len() - 1;
     packet[last] ^= 1 << random.pick(&[bit, 9]);
     let place = region.start + random.place(region.len() - packet.len() + 1);
-    row.words[channel][place..place + packet.len()].copy_from_slice(&packet);
+    row.words[CHANNEL][place..place + packet.len()].copy_from_slice(&packet);
 }
 
 /// A region ends in so many of the first words of a packet: often in as many as may be, but never in all.

@@ -8,13 +8,13 @@ use crate::random::Random;
 use std::ops::Range;
 
 pub const FAULTS: [Fault<Row>; 10] = [
-    ("wrong CRC in Y", |random, row| wrong_crc(random, row, Y)),
-    ("wrong CRC in C", |random, row| wrong_crc(random, row, C)),
-    ("EAV one pair late", |random, row| late(random, row, 1)),
-    ("EAV two pairs late", |random, row| late(random, row, 2)),
-    ("EAV three pairs late", |random, row| late(random, row, 3)),
-    ("EAV four pairs late", |random, row| late(random, row, 4)),
-    ("EAV five pairs late", |random, row| late(random, row, 5)),
+    ("wrong CRC in Y", wrong_crc::<Y>),
+    ("wrong CRC in C", wrong_crc::<C>),
+    ("EAV one pair late", late::<1>),
+    ("EAV two pairs late", late::<2>),
+    ("EAV three pairs late", late::<3>),
+    ("EAV four pairs late", late::<4>),
+    ("EAV five pairs late", late::<5>),
     ("EAV a few pairs early", |random, row| {
         let few = random.pick(&[1, 1, 2, 3, 4, 8]);
         let kept = row.words[Y].len().saturating_sub(few);
@@ -31,20 +31,20 @@ pub const FAULTS: [Fault<Row>; 10] = [
     }),
 ];
 
-fn wrong_crc(random: &mut Random, row: &mut Row, channel: usize) {
+fn wrong_crc<const CHANNEL: usize>(random: &mut Random, row: &mut Row) {
     let place = CRC.start + random.place(CRC.len());
     let bit = random.below(10);
     // The row may have lost these words.
-    if let Some(word) = row.words[channel].get_mut(place) {
+    if let Some(word) = row.words[CHANNEL].get_mut(place) {
         *word ^= 1 << random.pick(&[bit, 9]);
     }
 }
 
 /// So many pairs follow the row, all of them the same.
-fn late(random: &mut Random, row: &mut Row, pairs: usize) {
+fn late<const PAIRS: usize>(random: &mut Random, row: &mut Row) {
     let more = signals::pair(random);
     for (words, more) in row.words.iter_mut().zip(more) {
-        words.extend(vec![more; pairs]);
+        words.extend(vec![more; PAIRS]);
     }
 }
 

@@ -37,7 +37,10 @@ pub fn all() -> Vec<(Kind, Damage)> {
     .concat()
 }
 
-fn named<Spoil: Copy>(faults: &[(Kind, Spoil)], damage: fn(Spoil) -> Damage) -> Vec<(Kind, Damage)> {
+fn named<Spoil: Copy>(
+    faults: &[(Kind, Spoil)],
+    damage: fn(Spoil) -> Damage,
+) -> Vec<(Kind, Damage)> {
     let faults = faults.iter().map(|&(kind, spoil)| (kind, damage(spoil)));
     faults.collect()
 }
@@ -53,7 +56,12 @@ pub fn choose(random: &mut Random, count: u32, notes: &mut Notes) -> Vec<Damage>
 }
 
 /// The cable words of rows, of the last of which mostly only the first pairs are sent.
-pub fn capture(random: &mut Random, mut rows: Vec<Row>, damages: &[Damage], history: u16) -> Vec<u16> {
+pub fn capture(
+    random: &mut Random,
+    mut rows: Vec<Row>,
+    damages: &[Damage],
+    history: u16,
+) -> Vec<u16> {
     let layout = rows[0].head.layout();
     spoil_rows(random, &mut rows, damages);
     shorten_last(random, &mut rows);

@@ -23,12 +23,24 @@ const SPLICE: Kind = "splice of two captures";
 const SPLICE_OF_RASTERS: Kind = "splice of two rasters";
 
 /// Those of short rows come oftener.
-const CODES: [u32; 24] = [0, 1, 1, 1, 1, 1, 1, 1, 1, 1, 1, 2, 2, 3, 4, 5, 6, 6, 7, 8, 9, 9, 10, 11];
+const CODES: [u32; 24] = [
+    0, 1, 1, 1, 1, 1, 1, 1, 1, 1, 1, 2, 2, 3, 4, 5, 6, 6, 7, 8, 9, 9, 10, 11,
+];
 /// A few rows have about so many pairs at most.
 const FEW_ROWS: u32 = 12_000;
 
 pub fn kinds() -> Vec<Kind> {
-    let shapes = [GOOD, SEVERAL, FRAME, OTHER_RASTER, OTHER_HISTORY, CUT, CUT_AT_LAST_EAV, SPLICE, SPLICE_OF_RASTERS];
+    let shapes = [
+        GOOD,
+        SEVERAL,
+        FRAME,
+        OTHER_RASTER,
+        OTHER_HISTORY,
+        CUT,
+        CUT_AT_LAST_EAV,
+        SPLICE,
+        SPLICE_OF_RASTERS,
+    ];
     let faults = faults::all().into_iter().map(|(kind, _)| kind);
     let rowless = rowless::MAKERS.map(|(kind, _)| kind);
     shapes.into_iter().chain(faults).chain(rowless).collect()
@@ -74,7 +86,13 @@ pub fn frame(random: &mut Random, notes: &mut Notes) -> Module {
 }
 
 /// So many rows and the start of one more.
-fn captured(random: &mut Random, code: u32, count: u32, fault_count: u32, notes: &mut Notes) -> Module {
+fn captured(
+    random: &mut Random,
+    code: u32,
+    count: u32,
+    fault_count: u32,
+    notes: &mut Notes,
+) -> Module {
     let mut sender = Sender::new(random, code);
     let rows: Vec<Row> = (0..=count).map(|_| sender.row(random)).collect();
     let faults = faults::choose(random, fault_count, notes);
@@ -128,6 +146,10 @@ fn splice(random: &mut Random, notes: &mut Notes) -> Module {
     let start = random.place(second.words.len() + 1);
     first.words.extend(&second.words[start..]);
     first.code = random.pick(&codes);
-    notes.note(if codes[0] == codes[1] { SPLICE } else { SPLICE_OF_RASTERS });
+    notes.note(if codes[0] == codes[1] {
+        SPLICE
+    } else {
+        SPLICE_OF_RASTERS
+    });
     first
 }

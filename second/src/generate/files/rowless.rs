@@ -15,7 +15,9 @@ pub const MAKERS: [Maker; 10] = [
     ("noise", |random| noise(random, 5000)),
     ("zeros", |random| vec![0x000; 1 + random.place(9000)]),
     ("ones", |random| vec![0x3ff; 1 + random.place(9000)]),
-    ("the same word", |random| vec![random.short(0x001, 0x3fe); 1 + random.place(9000)]),
+    ("the same word", |random| {
+        vec![random.short(0x001, 0x3fe); 1 + random.place(9000)]
+    }),
     ("codes", |random| codes(random, 6)),
     ("many codes", |random| codes(random, 60)),
     ("codes about a run's end", about_a_run),
@@ -47,7 +49,11 @@ fn codes(random: &mut Random, most: u32) -> Vec<u16> {
 fn about_a_run(random: &mut Random) -> Vec<u16> {
     let (run, more) = length(random, 6);
     let count = run - 2 + more;
-    let codes = [random.place(20), across(run, random.place(CODE)), across(count, random.place(CODE))];
+    let codes = [
+        random.place(20),
+        across(run, random.place(CODE)),
+        across(count, random.place(CODE)),
+    ];
     let last = random.between(1, 2) as usize;
     marked(count, &codes[..=last])
 }

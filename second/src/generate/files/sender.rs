@@ -20,7 +20,11 @@ impl Sender {
     pub fn new(random: &mut Random, code: u32) -> Self {
         let mut camera = Camera::new(code, rasters::any_line_of(random, code));
         camera.carry = random.bit().then(|| [(); 2].map(|()| carried(random)));
-        Self { camera, is_busy: random.bit(), has_packets: random.bit() }
+        Self {
+            camera,
+            is_busy: random.bit(),
+            has_packets: random.bit(),
+        }
     }
 
     pub fn row(&mut self, random: &mut Random) -> Row {

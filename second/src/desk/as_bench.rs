@@ -1,8 +1,8 @@
 //! Bench files at a desk, cut in several ways: the lines are those that `bench` prints.
 
-use super::files::file;
-use crate::bench::bench;
-use crate::desk::{Desk, Outcome};
+use super::{Desk, Outcome};
+use crate::bench::printed;
+use crate::generate::files::file;
 
 /// A file of more bytes would take long.
 const MOST_BYTES: usize = 120_000;
@@ -35,10 +35,9 @@ fn a_desk_tells_what_bench_prints() {
         if file.len() > MOST_BYTES {
             continue;
         }
-        let mut printed = Vec::new();
-        bench(&file[..], &mut printed).expect("a list takes all that is written");
+        let printed = printed(&file[..]).into_bytes();
         for part in [usize::MAX, 1 + seed as usize * 37 % 5000] {
-            assert!(lines(&file, part) == printed, "file {seed} in parts of {part}");
+            assert!(lines(&file, part) == printed, "file {seed} by {part}");
         }
         compared += 1;
     }

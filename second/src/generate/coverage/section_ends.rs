@@ -1,11 +1,11 @@
 //! Where words sections, what a desk is lent of them, and words above 3FF end: about the lengths that may be taken at once.
 
-use super::coverage::Tally;
-use super::long_sections::{LENGTHS, READ};
-use super::sessions::begun;
 use super::walk::{Places, Walk};
+use super::Tally;
 use crate::desk::reader::{Piece, Reader, Stage};
 use crate::desk::Desk;
+use crate::generate::long_sections::{LENGTHS, READ};
+use crate::generate::sessions::begun;
 
 /// What is seen on the way.
 #[derive(Default)]
@@ -28,13 +28,19 @@ impl Reading {
     pub fn of(desk: &Desk) -> Self {
         let numbers = desk.numbers();
         let is_running = numbers.open && numbers.in_range();
-        Self { reader: desk.reader.clone(), walk: is_running.then(|| Walk::of(&numbers)), read: 0, waiting: Vec::new() }
+        Self {
+            reader: desk.reader.clone(),
+            walk: is_running.then(|| Walk::of(&numbers)),
+            read: 0,
+            waiting: Vec::new(),
+        }
     }
 
     /// Takes bytes up to the one that ends a job or is refused, and answers how many.
     pub fn take(&mut self, bytes: &[u8], seen: &mut Seen) -> usize {
         let ends = |&byte: &u8| self.take_byte(byte, seen);
-        let taken = bytes.iter().position(ends).map_or(bytes.len(), |last| last + 1);
+        let last = bytes.iter().position(ends);
+        let taken = last.map_or(bytes.len(), |last| last + 1);
         if self.reader.is_in_words() {
             self.note("lent", seen);
         }
@@ -75,7 +81,10 @@ impl Reading {
 
     /// Something ends after so many words, if that is about one of the lengths, or they are few; a cut also after half a word.
     fn note(&self, what: &str, seen: &mut Seen) {
-        let half = if what == "cut" && self.reader.stage == Stage::High { " and a half" } else { "" };
+        let half = match self.reader.stage {
+            Stage::High if what == "cut" => " and a half",
+            _ => "",
+        };
         let about = |length: &&usize| self.read.abs_diff(**length) <= 2;
         if self.read <= 3 || LENGTHS.iter().any(|length| about(&length)) {
             seen.ends.note(format!("{what} {}{half}", self.read));
@@ -101,7 +110,8 @@ pub fn read_file(file: &[u8], seen: &mut Seen) {
         if read.len() == READ && reading.reader.is_in_words() {
             let half = reading.reader.stage == Stage::High;
             let left = reading.reader.left.min(3);
-            seen.ends.note(format!("read to {left} left, amid a word {half}"));
+            seen.ends
+                .note(format!("read to {left} left, amid a word {half}"));
         }
     }
     reading.note_cut(seen);

@@ -30,13 +30,12 @@ pub fn spoil_parts(random: &mut Random, parts: &mut Parts) {
     let layout = parts.head.layout();
     for _ in 0..faults(random) {
         let channel = random.place(2);
-        let Parts { active, blanking, buffers, .. } = parts;
         match random.below(8) {
-            0 => change_length(random, &mut active[channel]),
-            1 => blanking[channel].resize(layout.blanking().len() + 1, 0x040),
-            2 => put_above(random, &mut active[channel]),
-            3 => put_above(random, &mut blanking[channel]),
-            4 | 5 => buffers[channel].truncate(layout.total() - 1),
+            0 => change_length(random, &mut parts.active[channel]),
+            1 => parts.blanking[channel].resize(layout.blanking().len() + 1, 0x040),
+            2 => put_above(random, &mut parts.active[channel]),
+            3 => put_above(random, &mut parts.blanking[channel]),
+            4 | 5 => parts.buffers[channel].truncate(layout.total() - 1),
             _ => spoil_head(random, &mut parts.head),
         }
     }

@@ -17,10 +17,7 @@ pub struct Difference {
 }
 
 /// How many answers came (all that are too many count as one), and the first that is another.
-struct Reading {
-    answers: usize,
-    difference: Option<Difference>,
-}
+type Reading = (usize, Option<Difference>);
 
 pub struct Judge<'a> {
     pub budget: Budget,
@@ -34,12 +31,12 @@ impl<'a> Judge<'a> {
 
     /// Puts the requests to one run of the command.
     pub fn first_difference(&mut self, lines: &[String]) -> Result<Option<Difference>, Failure> {
-        self.budget.spend(lines.iter().map(|line| line.len() + 1).sum())?;
-        let (reading, status) = self.command.run(
+        self.budget
+            .spend(lines.iter().map(|line| line.len() + 1).sum())?;
+        let ((answers, difference), status) = self.command.run(
             |stdin| lines.iter().try_for_each(|line| writeln!(stdin, "{line}")),
             |stdout| read(lines, BufReader::new(stdout)),
         )?;
-        let Reading { answers, difference } = reading;
         if answers == lines.len() && status.success() {
             return Ok(difference);
         }
@@ -73,15 +70,14 @@ fn read(lines: &[String], mut answers: impl BufRead) -> Result<Reading, Failure>
     let mut difference = None;
     for (place, line) in lines.iter().enumerate() {
         let Some(theirs) = next_line(&mut answers)? else {
-            let answers = place;
-            return Ok(Reading { answers, difference });
+            return Ok((place, difference));
         };
         if difference.is_none() && theirs != answer(line).map_err(Failure::Message)? {
             difference = Some(Difference { place, theirs });
         }
     }
     let answers = lines.len() + usize::from(next_line(&mut answers)?.is_some());
-    Ok(Reading { answers, difference })
+    Ok((answers, difference))
 }
 
 /// A line, or none at the end.

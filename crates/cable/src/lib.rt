@@ -50,7 +50,7 @@ fn running(x: u32) -> u32
 }
 
 // Ten cable bits from ten data bits after a history.
-pub fn scramble_word(history: u16, word: u16) -> u16
+fn scramble_word(history: u16, word: u16) -> u16
     ensures { λ r. ⌜ r ≡ scrambleWord history word ⌝ }
 {
     let s = scrambled_bits(history, word);

@@ -2,7 +2,7 @@
 pub mod sheet;
 
 ghost use mathlib.Core.Path.{_≡_};
-ghost use Rattle.crc.specs.Crc.{crcWord, crcWords, ran, crWords};
+ghost use Rattle.crc.specs.Crc.{crcWords, ran, crWords};
 use sheet::STEPS;
 
 // The highest register: eighteen ones.
@@ -17,13 +17,6 @@ pub struct CrcWords {
     pub refusal: u8,
     pub cr0: u16,
     pub cr1: u16,
-}
-
-// The register after the ten bits of a word: a run of one.
-pub fn step_word(register: u32, word: u16) -> u32
-    ensures { λ r. ⌜ r ≡ crcWord register word ⌝ }
-{
-    step_words(register, &[word])
 }
 
 // The register after words, whatever they are. The compiler lays the sheet out anew in each call, so the loop stands where the sheet is named.

@@ -1,6 +1,6 @@
 -- Laws of words10, reservedCode and nineOf.
-use mathlib.Core.Path.{_≡_, refl, _∙_}
-use mathlib.Core.Bool.{Bool, true, false, _&&_, and-true}
+use mathlib.Core.Path.{_≡_, refl, sym, _∙_}
+use mathlib.Core.Bool.{Bool, true, false, not, _&&_, and-true}
 use mathlib.Core.List.{List, [], _∷_, _++_}
 use Prim.Native.Nat.{ℕ, zero, suc, _+_, _/_, _%_, _≤_, _<_}
 use native.Mathlib.Omega.{arith}
@@ -13,7 +13,7 @@ use borrow.Author.Tests.{lt-ltb, le-ltb, le-leb, lt-leb, leb-true}
 use Rattle.bits.specs.Choice.{if}
 use Rattle.bits.specs.Bits.{odd, digit}
 use Rattle.bits.specs.Words.{words10, reservedCode, nineOf}
-use Rattle.bits.proofs.Choice.{if-true}
+use Rattle.bits.proofs.Choice.{if-true, false-not-true}
 use Rattle.bits.proofs.Bits.{digit-odd}
 
 -- ---- words10: a step of a loop that looks at every word, and its end
@@ -111,16 +111,44 @@ reserved-of-low w e = go (decLe w 0x3ff)
     go (yes h) = let small : w % 1024 ≡ w = omega arith in rw small at e
     go (no h) = rw (lt-leb w 0x003 (omega arith), le-leb 0x3fc w (omega arith)) (lt-leb w 0x3ff (omega arith))
 
--- ---- nineOf: range, inverse, never reserved
+-- ---- bit 9 the inverse of bit 8: the two high bits are 01 or 10, far from both reserved ranges
 
--- bit 9 is the inverse of bit 8, so that the two high bits are 01 or 10
-pub nine-range : (n : ℕ) → (256 ≤ nineOf n) × (nineOf n < 768)
-unfolding nineOf
-nine-range n = go (odd (n / 256)) (digit-odd (n / 256))
+inverse-range : (w : ℕ) → w ≤ 0x3ff → odd (w / 512) ≡ not (odd (w / 256)) → (256 ≤ w) × (w < 768)
+inverse-range w h e = go (odd (w / 512)) (odd (w / 256)) (digit-odd (w / 512)) (digit-odd (w / 256)) e
   where
-    go : (b : Bool) → digit b ≡ n / 256 % 2 → (256 ≤ n % 512 + if b 0 512) × (n % 512 + if b 0 512 < 768)
-    go true e = (omega arith, omega arith)
-    go false e = (omega arith, omega arith)
+    go : (nine eight : Bool) → digit nine ≡ w / 512 % 2 → digit eight ≡ w / 256 % 2 → nine ≡ not eight → (256 ≤ w) × (w < 768)
+    go true true a b c = absurd (false-not-true (sym c))
+    go true false a b c = (omega arith, omega arith)
+    go false true a b c = (omega arith, omega arith)
+    go false false a b c = absurd (false-not-true c)
+
+pub inverse-not-reserved : (w : ℕ) → w ≤ 0x3ff → odd (w / 512) ≡ not (odd (w / 256)) → reservedCode w ≡ false
+unfolding reservedCode
+inverse-not-reserved w h e =
+    let r = inverse-range w h e in
+    rw (lt-leb w 0x003 (omega arith), lt-leb 0x3fc w (omega arith))
+
+-- ---- nineOf: inverse, so that range and reserved codes follow
+
+nine-inverse : (n : ℕ) → (nineOf n ≤ 0x3ff) × (odd (nineOf n / 512) ≡ not (odd (nineOf n / 256)))
+unfolding nineOf odd
+nine-inverse n = go (odd (n / 256)) (digit-odd (n / 256))
+  where
+    go : (b : Bool) → digit b ≡ n / 256 % 2
+        → let w = n % 512 + if b 0 512 in
+        (w ≤ 0x3ff) × (odd (w / 512) ≡ not (odd (w / 256)))
+    go true e =
+        let nine : (n % 512 + 0) / 512 % 2 ≡ 0 = omega arith in
+        let eight : (n % 512 + 0) / 256 % 2 ≡ 1 = omega arith in
+        (omega arith, rw (nine, eight))
+    go false e =
+        let less : n % 512 < 256 = omega arith in
+        let nine : (n % 512 + 512) / 512 % 2 ≡ 1 = omega arith in
+        let eight : (n % 512 + 512) / 256 % 2 ≡ 0 = omega arith in
+        (omega arith, rw (nine, eight))
+
+pub nine-range : (n : ℕ) → (256 ≤ nineOf n) × (nineOf n < 768)
+nine-range n = inverse-range (nineOf n) (nine-inverse n .0) (nine-inverse n .1)
 
 pub nine-low : (n : ℕ) → nineOf n % 512 ≡ n % 512
 unfolding nineOf
@@ -139,7 +167,4 @@ nine-of-low n =
     rw (low, bit)
 
 pub nine-not-reserved : (n : ℕ) → reservedCode (nineOf n) ≡ false
-unfolding reservedCode
-nine-not-reserved n =
-    let r = nine-range n in
-    rw (lt-leb (nineOf n) 0x003 (omega arith), lt-leb 0x3fc (nineOf n) (omega arith))
+nine-not-reserved n = inverse-not-reserved (nineOf n) (nine-inverse n .0) (nine-inverse n .1)

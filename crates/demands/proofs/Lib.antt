@@ -17,8 +17,10 @@ pub mod PacketRight
 pub mod PacketFound
 pub mod Coding
 pub mod BuiltNoFlag
+pub mod BuiltRows
 pub mod RowExtracted
 pub mod CorrectedFlags
+pub mod NoneReserved
 pub mod RowsStruck
 pub mod DemandOne
 pub mod DemandTwo

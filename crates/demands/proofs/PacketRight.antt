@@ -1,7 +1,7 @@
 -- A packet that is built is whole and has a right checksum.
 use mathlib.Core.Path.{refl, sym, ap, _∙_}
 use lib.ListN.{length}
-use Rattle.packet.proofs.Refusals.{room-of-built}
+use Rattle.packet.proofs.Refusals.{lawful-of-built}
 use Rattle.law_row.specs.Lawful.{rightPacket}
 use Rattle.law_row.proofs.FoundPacket as Found
 use Rattle.demands.specs.Demands.{PacketRight}
@@ -10,4 +10,4 @@ pub packet-right : PacketRight
 unfolding PacketRight
 packet-right did sdid user out made =
     let ok = sym (Found.made-number did sdid user out refl) ∙ made in
-    ap rightPacket (Found.made-packet did sdid user out refl refl refl ok) ∙ Found.packet-right did sdid user (room-of-built did sdid user (length out) ok .0)
+    ap rightPacket (Found.made-packet did sdid user out refl refl refl ok) ∙ Found.packet-right did sdid user (lawful-of-built did sdid user (length out) ok .0 .few)

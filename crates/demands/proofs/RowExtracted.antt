@@ -11,7 +11,7 @@ use borrow.Author.Tests.{le-leb, ne-eqb}
 use Rattle.bits.specs.Choice.{if}
 use Rattle.bits.specs.Words.{reservedCode}
 use Rattle.raster.specs.Lines.{lineRefusal}
-use Rattle.parts.specs.Parts.{any, endToEnd, laidUnless, part}
+use Rattle.parts.specs.Parts.{any, endToEnd}
 use Rattle.parts.proofs.Comparing.{any-of-replicate}
 use Rattle.parts.proofs.Laid.{part-over-laid}
 use Rattle.scan.specs.Scan.{scan, packetsOf}
@@ -32,10 +32,10 @@ use Rattle.law_row.specs.Lawful.{allRight}
 use Rattle.law_row.proofs.BuiltParts.{blankingOf-streamOf, activeOf-streamOf}
 use Rattle.law_row.proofs.Calm.{whole-packets, plain-no-zero}
 use Rattle.law_row.specs.Laid.{LawfulLine}
-use Rattle.law_burst.specs.TwoRows.{total}
 use Rattle.law_row.proofs.Checked.{row-taken}
-use Rattle.law_row.proofs.BuiltRow.{long-y, long-c, built-fits, built-y, built-c}
+use Rattle.law_row.proofs.BuiltRow.{long-y, long-c, built-fits}
 use Rattle.demands.specs.Demands.{builtRow, extractedPackets, RowExtracted}
+use Rattle.demands.proofs.BuiltRows.{built-row-y, built-row-c}
 
 -- ---- one stream: its packets are those laid, for neither blanking nor an active word is 000
 
@@ -109,14 +109,10 @@ module _
     fits = built-fits code line carry yActive cActive yLaid cLaid y c made
 
     row-y : yRow ≡ inY
-    row-y =
-        ap (λ (n : ℕ). part 0 (total code line) (laidUnless n inY y)) (sym made)
-        ∙ built-y code line carry yActive cActive yLaid cLaid y c made
+    row-y = built-row-y code line carry yActive cActive yLaid cLaid y c made
 
     row-c : cRow ≡ inC
-    row-c =
-        ap (λ (n : ℕ). part 0 (total code line) (laidUnless n inC c)) (sym made)
-        ∙ built-c code line carry yActive cActive yLaid cLaid y c made
+    row-c = built-row-c code line carry yActive cActive yLaid cLaid y c made
 
     taken : rowRefusal code line yRow cRow ≡ 0
     taken = ap₂ (rowRefusal code line) row-y row-c ∙ row-taken code line inY inC fits

@@ -9,19 +9,20 @@ use Prim.Native.Nat.{ℕ, _+_, _/_, _%_, _≤_, _<_}
 use lib.Dec.{leb, eqb}
 use lib.ListN.{length, drop}
 use Rattle.bits.specs.Choice.{if}
-use Rattle.bits.specs.Bits.{wordBits}
-use Rattle.bits.specs.Words.{words10}
+use Rattle.bits.specs.Bits.{odd, wordBits}
+use Rattle.bits.specs.Words.{words10, reservedCode}
 use Rattle.raster.specs.Layout.{syncOf, hdUnit}
 use Rattle.raster.specs.Table.{meant, rasterOk, lookedUp, totalOf}
 use Rattle.raster.specs.Lines.{lineOk, lineFacts}
-use Rattle.crc.specs.Crc.{registerOk, ran, crWords}
+use Rattle.crc.specs.Crc.{registerOk, ran, cr0, cr1, crWords}
 use Rattle.cable.specs.Words.{scrambleWords, unscrambleWords, scrambleNext, unscrambleNext, codeRefusal, coded, filled}
 use Rattle.cable.specs.Channels.{paired}
 use Rattle.align.specs.Sync.{startsWith, syncRefusal, syncPlace, foundSync}
 use Rattle.timing.specs.declared.Timing.the-variants.{Exact}
 use Rattle.timing.specs.Xyz.{xyzOf, readXyz, told}
-use Rattle.timing.specs.Line.{lineWords, lineRead}
+use Rattle.timing.specs.Line.{ln0Of, ln1Of, lineWords, lineRead}
 use Rattle.parts.specs.Parts.{part, any, laid, endToEnd, unlessRefused, laidUnless}
+use Rattle.scan.specs.Packet.{checksumOf}
 use Rattle.plan.specs.Plan.{planOf}
 use Rattle.plan.specs.Refusal.{rowRefusal}
 use Rattle.packet.specs.Build as Packet
@@ -31,13 +32,14 @@ use Rattle.finding.specs.Find.{findOf}
 use Rattle.finding.specs.Extract.{channelOf, packetsIn, extractRefusal, extracted}
 use Rattle.stream.specs.Words.{yBlank, cBlank}
 use Rattle.row.specs.declared.Carry.{Carry}
-use Rattle.row.specs.Before.{carryOk}
+use Rattle.row.specs.Before.{carried, carryOk}
 use Rattle.row.specs.Row.{flagsOf, checked}
 use Rattle.repair.specs.Repair.{wipedIf}
 use Rattle.repair.specs.Answer.{correctRefusal, correctedY, correctedC, corrected}
 use Rattle.compose.specs.Compose.{yStream, cStream, roomOk, buildRefusal, builtFor}
 use Rattle.law_row.specs.Lawful.{rightPacket}
 use Rattle.law_row.specs.Laid.{LawfulLine, PlaceAfter}
+use Rattle.law_row.specs.MadeWords.{madeWords, sumsOf}
 use Rattle.law_burst.specs.Stretch.{crcFlagged, BurstFlagged}
 use Rattle.law_burst.specs.TwoRows.{total, nextChecked, TwoRows, Struck}
 use Rattle.tally.specs.declared.Verdict.the-variants.{NoSignal}
@@ -381,6 +383,34 @@ CorrectedFlags = (code line : ℕ) (carry : Carry) (wipe : Bool) (y c : List ℕ
     × (seen .flags / 128 ≡ flagsOf p carry (wipedIf wipe p yBlank y) (wipedIf wipe p cBlank c) / 128)
     × (wipe ≡ false → seen .flags / 128 ≡ checked code line carry y c .flags / 128)
 
+-- ---- (request 7) "Every word we make has bit 9 the inverse of bit 8, or is one of the eight timing codes ..": "no made XYZ, line number, CRC,
+-- ---- checksum or header word falls in the reserved ranges for any input"
+
+abbrev pub Free : List ℕ → Type 0
+Free ws = any reservedCode ws ≡ false
+
+pub record NoneReserved : Type 0 where
+  pub inverse : (w : ℕ) → w ≤ 0x3ff → odd (w / 512) ≡ not (odd (w / 256)) → Free (w ∷ [])
+  pub xyz : (f v h : Bool) → Free (xyzOf f v h ∷ [])
+  pub line-number : (line : ℕ) → Free (ln0Of line ∷ ln1Of line ∷ [])
+  pub crc : (register : ℕ) → Free (cr0 register ∷ cr1 register ∷ [])
+  pub checksum : (ws : List ℕ) → Free (checksumOf ws ∷ [])
+  pub header : (byte : ℕ) → Free (Packet.headerWord byte ∷ [])
+  -- so of what the calls leave: a packet after its 000 3FF 3FF; a row that is built, in both channels; one that is corrected, its checksums too
+  pub packet : (did sdid : ℕ) (user out : List ℕ) → Packet.built did sdid user (length out) .refusal ≡ 0
+      → Free (drop 3 (builtPacket did sdid user out))
+  pub row : (code line : ℕ) (carry : Carry) (yActive cActive yLaid cLaid y c : List ℕ)
+      → buildRefusal code line carry yActive cActive yLaid cLaid (length y) (length c) ≡ 0
+      → let p = planOf code line in
+      Free (madeWords p true (builtRow code line (yStream p carry yActive yLaid) y))
+      × Free (madeWords p true (builtRow code line (cStream p carry cActive cLaid) c))
+  pub corrected : (code line : ℕ) (carry : Carry) (wipe : Bool) (y c : List ℕ) → correctRefusal code line carry wipe y c ≡ 0
+      → let p = planOf code line in
+      let known = carried carry .known in
+      let yRow = correctedY p carry wipe y in
+      let cRow = correctedC p carry wipe c in
+      Free (madeWords p known yRow ++ sumsOf p yRow) × Free (madeWords p known cRow ++ sumsOf p cRow)
+
 -- "Cutting the words anywhere into feeds changes nothing.": where all of them are taken in one feed, pieces of them leave the same
 unfoldable pub FeedsCut : Type 0
 FeedsCut = (feeds : List (List ℕ)) (x : Bench) → feedRefusal (x .session) (endToEnd feeds) (x .y) (x .c) ≡ 0 → fedAll feeds x ≡ fedOnce (endToEnd feeds) x
@@ -402,6 +432,7 @@ pub record DemandTwo : Type 0 where
   pub built-no-flag : BuiltNoFlag
   pub row-extracted : RowExtracted
   pub corrected-flags : CorrectedFlags
+  pub none-reserved : NoneReserved
   pub feeds-cut : FeedsCut
   pub clean-passes : CleanPasses
   pub clean-passes-short : CleanPassesShort

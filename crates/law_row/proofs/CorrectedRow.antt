@@ -52,11 +52,11 @@ module _ (code line : ℕ) (carry : Carry) (wipe : Bool) (y c : List ℕ) where
 
   -- ---- the row before and after a correction that is not refused
 
-  record Before : Type 0 where
-    fits : RowFits code line y c
-    registers : carryOk carry ≡ true
+  pub record Before : Type 0 where
+    pub fits : RowFits code line y c
+    pub registers : carryOk carry ≡ true
 
-  before : refusal ≡ 0 → Before
+  pub before : refusal ≡ 0 → Before
   unfolding correctRefusal
   before ok =
       let free = checkRefusal-ok code line carry y c (orRefusal-none (checkRefusal code line carry y c) _ ok .0) in

@@ -10,7 +10,6 @@ use lib.Seq.{length-take-le, take-append-add}
 use borrow.Author.Tests.{eq-eqb, not-false}
 use Rattle.bits.specs.Bits.{bits, digit, parity}
 use Rattle.bits.specs.Words.{words10}
-use Rattle.bits.proofs.Choice.{if-zero}
 use Rattle.bits.proofs.Words.{nine-range, tens-append, words10-cons}
 use Rattle.parts.specs.Parts.{endToEnd, laid, laidUnless, part, same}
 use Rattle.parts.proofs.Comparing.{any-of-map, same-refl}
@@ -27,7 +26,7 @@ use Rattle.region.specs.Ancillary.{ancillary, blankingOf}
 use Rattle.packet.specs.declared.Built.{Built}
 use Rattle.packet.specs.Build.{bodyOf, built, builtFor, buildRefusal, headerWord, packetOf}
 use Rattle.packet.proofs.Packets.{length-packet, packet-did, packet-marked, packet-sdid, packet-size, packet-sum-right}
-use Rattle.packet.proofs.Refusals.{room-of-built}
+use Rattle.packet.proofs.Refusals.{lawful-of-built}
 use Rattle.finding.specs.Find.{findOf, found, wanted}
 use Rattle.finding.proofs.Finding.{findOf-found, found-of-ancillary, found-of-laid, orElse-first}
 use Rattle.law_row.specs.Lawful.{rightPacket}
@@ -80,10 +79,6 @@ module _ (did sdid : ℕ) (user : List ℕ) where
 
   packet-wanted : did < 256 → sdid < 256 → wanted did sdid (Packet packet) ≡ true
   packet-wanted d s = rw (eq-eqb _ did (packet-did did sdid user d), eq-eqb _ sdid (packet-sdid did sdid user s))
-
-user-tens : (did sdid : ℕ) (user : List ℕ) (room : ℕ) → buildRefusal did sdid user room ≡ 0 → words10 user ≡ true
-unfolding buildRefusal
-user-tens did sdid user room e = if-zero (words10 user) _ 2 e .0
 
 -- ---- the packet found
 
@@ -152,10 +147,10 @@ module _ (did sdid : ℕ) (user out : List ℕ) {made : Built} (b : made ≡ bui
   made-packet o w ok =
       let p = packetOf did sdid user in
       let long = length-packet did sdid user in
-      let room = room-of-built did sdid user (length out) ok in
+      let room = lawful-of-built did sdid user (length out) ok .1 in
       let count : made .words ≡ length user + 7 = ap (λ r. r .words) b ∙ ap (λ (n : ℕ). builtFor n user .words) ok in
       w ∙ ap₂ (part 0) count (o ∙ ap (λ (n : ℕ). laidUnless n p out) ok)
-      ∙ part-over-laid 0 (length user + 7) p out (long ∙ sym (length-take-le (length user + 7) out (room .1)))
+      ∙ part-over-laid 0 (length user + 7) p out (long ∙ sym (length-take-le (length user + 7) out room))
 
 module _ (code line did sdid : ℕ) (user out y c : List ℕ) where
   abbrev refusal : ℕ
@@ -194,7 +189,7 @@ module _ (code line did sdid : ℕ) (user out y c : List ℕ) where
             let p = packetOf did sdid user in
             let ok : refusal ≡ 0 = sym number ∙ none in
             let e = made-packet did sdid user out b o w ok in
-            let there-is = packet-found code line did sdid user y c packets (rowRefusal-ok code line y c free)
-            (room-of-built did sdid user (length out) ok .0) d s at placed (user-tens did sdid user (length out) ok) in
+            let lawful = lawful-of-built did sdid user (length out) ok .0 in
+            let there-is = packet-found code line did sdid user y c packets (rowRefusal-ok code line y c free) (lawful .few) d s at placed (lawful .words) in
             let same-there = f ∙ ap (λ (l : List ℕ). findOf code line did sdid l c) (l ∙ ap (λ (ws : List ℕ). laid at ws y) e) ∙ there-is in
             a ∙ ap₂ same same-there e ∙ same-refl p

@@ -10,4 +10,5 @@ pub mod Made
 pub mod Checked
 pub mod BuiltRow
 pub mod CorrectedRow
+pub mod MadeWords
 pub mod FoundPacket

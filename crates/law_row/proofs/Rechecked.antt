@@ -76,7 +76,7 @@ module _ (p : Plan) (fits : Fits (p .places)) (known : Bool) (r : ℕ) (ws : Lis
   unfolding ancillary
   kept-ancillary = ap₂ (λ (b a : List ℕ). scan b ++ scan (if (p .v) a [])) kept-blanking kept-active
 
-  putRight-sum : any wrongSum (ancillary p (putRight p known r ws)) ≡ false
+  pub putRight-sum : any wrongSum (ancillary p (putRight p known r ws)) ≡ false
   unfolding withSums
   putRight-sum = ap (any wrongSum) kept-ancillary ∙ ancillary-right p ws (omega arith)
 

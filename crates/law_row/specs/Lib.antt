@@ -1,2 +1,3 @@
 pub mod Lawful
 pub mod Laid
+pub mod MadeWords

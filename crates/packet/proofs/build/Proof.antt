@@ -1,7 +1,7 @@
 use mathlib.Core.Path.{refl, sym, _∙_}
 use borrow.Author.Needs.{needs}
 use Rattle.packet.specs.Build.{built}
-use Rattle.packet.proofs.Refusals.{room-of-built, refused}
+use Rattle.packet.proofs.Refusals.{lawful-of-built, refused}
 use Rattle.packet.proofs.build.Statement.{statement}
 use Rattle.packet.proofs.build.Tie as tie
 
@@ -13,7 +13,7 @@ unfolding built
 returns c = rw (← c .before .build-refusal .ensures) (refused _ _ _ _ (c .if1 .taken))
 
 lay-packet-requires : tie.Need-lay-packet-requires
-lay-packet-requires c κs = room-of-built _ _ _ _ (sym (c .before .before .build-refusal .ensures) ∙ c .before .if1 .left) .0
+lay-packet-requires c κs = lawful-of-built _ _ _ _ (sym (c .before .before .build-refusal .ensures) ∙ c .before .if1 .left) .0 .few
 
 add-t11 : tie.Need-add-t11
 add-t11 c = search needs

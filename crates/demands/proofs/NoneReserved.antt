@@ -1,0 +1,44 @@
+-- No word that is made is a reserved code.
+use mathlib.Core.Path.{refl, sym, ap, _∙_}
+use mathlib.Core.Bool.{true}
+use mathlib.Core.List.{List}
+use Prim.Native.Nat.{ℕ}
+use lib.ListN.{length, drop}
+use Rattle.bits.specs.Words.{reservedCode}
+use Rattle.bits.proofs.Words.{inverse-not-reserved}
+use Rattle.parts.specs.Parts.{any}
+use Rattle.crc.proofs.Words.{cr-not-reserved}
+use Rattle.timing.proofs.Codes.{xyz-not-reserved}
+use Rattle.timing.proofs.Line.{line-not-reserved}
+use Rattle.scan.proofs.Packets.{checksum-not-reserved}
+use Rattle.packet.proofs.Words.{header-not-reserved}
+use Rattle.packet.proofs.Refusals.{packet-free}
+use Rattle.plan.specs.Plan.{planOf}
+use Rattle.law_row.specs.MadeWords.{madeWords}
+use Rattle.law_row.proofs.FoundPacket as Found
+use Rattle.law_row.proofs.MadeWords.{row-free, correction-free}
+use Rattle.demands.specs.Demands.{NoneReserved}
+use Rattle.demands.proofs.BuiltRows.{built-row-y, built-row-c}
+
+pub none-reserved : NoneReserved
+unfolding any
+none-reserved =
+    record {
+      inverse = λ w h e. rw (inverse-not-reserved w h e);
+      xyz = λ f v h. rw (xyz-not-reserved f v h);
+      line-number = λ line. rw (line-not-reserved line .0, line-not-reserved line .1);
+      crc = λ register. rw (cr-not-reserved register .0, cr-not-reserved register .1);
+      checksum = λ ws. rw (checksum-not-reserved ws);
+      header = λ byte. rw (header-not-reserved byte);
+      packet = λ did sdid user out made.
+          let ok = sym (Found.made-number did sdid user out refl) ∙ made in
+          ap (λ (l : List ℕ). any reservedCode (drop 3 l)) (Found.made-packet did sdid user out refl refl refl ok)
+          ∙ packet-free did sdid user (length out) ok;
+      row = λ code line carry yActive cActive yLaid cLaid y c made.
+          let p = planOf code line in
+          let free = row-free code line carry yActive cActive yLaid cLaid y c made in (
+            ap (λ (l : List ℕ). any reservedCode (madeWords p true l)) (built-row-y code line carry yActive cActive yLaid cLaid y c made) ∙ free .0,
+            ap (λ (l : List ℕ). any reservedCode (madeWords p true l)) (built-row-c code line carry yActive cActive yLaid cLaid y c made) ∙ free .1,
+          );
+      corrected = λ code line carry wipe y c done. correction-free code line carry wipe y c done;
+    }

@@ -26,12 +26,8 @@ pub fn build(
         fill(&mut words[layout.active()], active[channel]);
         words
     });
-    let reserved = |words: &Vec<u16>| layout.makes_reserved(&words[CRC]);
     let short = |buffer: &&mut [u16]| buffer.len() < layout.total();
-    refuse(&[
-        (Refusal::Made, built.iter().any(reserved)),
-        (Refusal::Short, buffers.iter().any(short)),
-    ])?;
+    refuse(&[(Refusal::Short, buffers.iter().any(short))])?;
     for (buffer, words) in buffers.into_iter().zip(&built) {
         fill(buffer, words);
     }

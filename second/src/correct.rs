@@ -3,9 +3,9 @@
 use crate::check::{checkable, next_carry, right_crc};
 use crate::crc::Carry;
 use crate::layout::{Layout, BLANKING, C, CRC, EAV, LINE, Y};
-use crate::packet::{make_checksums_right, right_checksum, whole_packets, wipe};
-use crate::refusal::{refuse, Refusal};
-use crate::words::{fill, is_reserved};
+use crate::packet::{make_checksums_right, wipe};
+use crate::refusal::Refusal;
+use crate::words::fill;
 
 /// Corrects both channels and answers the next carry of the row as it then stands.
 pub fn correct(
@@ -24,8 +24,6 @@ pub fn correct(
         correct_channel(&layout, carry.map(|carry| carry[channel]), &mut words);
         words
     });
-    let reserved = |words: &Vec<u16>| makes_reserved(&layout, carry.is_some(), words);
-    refuse(&[(Refusal::Made, corrected.iter().any(reserved))])?;
     for (words, corrected) in row.into_iter().zip(&corrected) {
         fill(words, corrected);
     }
@@ -51,12 +49,4 @@ fn correct_channel(layout: &Layout, register: Option<u32>, words: &mut [u16]) {
         let crc = right_crc(register, words);
         words[CRC].copy_from_slice(&crc);
     }
-}
-
-/// "in building or correction, a timing code, line number, CRC, checksum [..] to be made would be a reserved code"
-fn makes_reserved(layout: &Layout, with_crc: bool, corrected: &[u16]) -> bool {
-    let crc = &corrected[if with_crc { CRC } else { 0..0 }];
-    let regions = layout.packet_regions().into_iter();
-    let mut packets = regions.flat_map(|region| whole_packets(&corrected[region]));
-    layout.makes_reserved(crc) || packets.any(|packet| is_reserved(right_checksum(packet)))
 }

@@ -4,7 +4,6 @@
 use crate::raster::{raster_with_line, v_and_f, Raster};
 use crate::refusal::Refusal;
 use crate::timing::{encode_line, xyz};
-use crate::words::any_reserved;
 use std::ops::Range;
 
 /// "A row's channels are two lent slices of words, Y and C."
@@ -66,13 +65,6 @@ impl Layout {
 
     pub fn line_words(&self) -> [u16; 2] {
         encode_line(self.line).into()
-    }
-
-    /// "a timing code, line number, CRC [..] to be made would be a reserved code"; the CRC words, where made, are given.
-    pub fn makes_reserved(&self, crc: &[u16]) -> bool {
-        let codes = [self.eav_words()[3], self.sav_words()[3]];
-        let made = [&codes[..], &self.line_words(), crc].concat();
-        any_reserved(&made)
     }
 
     /// "Packets lie in the blanking of every row, and in the active words of rows whose expected line has V = 1";

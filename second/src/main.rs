@@ -18,6 +18,8 @@ mod generate;
 mod job;
 mod layout;
 mod line;
+#[cfg(test)]
+mod made;
 mod packet;
 mod random;
 mod raster;

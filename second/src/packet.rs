@@ -132,10 +132,7 @@ pub fn build(did: u8, sdid: u8, user: &[u16], output: &mut [u16]) -> Result<usiz
         (Refusal::Packet, any_reserved(user)),
     ])?;
     let packet = packet((did, sdid), user);
-    refuse(&[
-        (Refusal::Made, makes_reserved(&packet)),
-        (Refusal::Short, output.len() < packet.len()),
-    ])?;
+    refuse(&[(Refusal::Short, output.len() < packet.len())])?;
     fill(output, &packet);
     Ok(packet.len())
 }
@@ -145,12 +142,6 @@ pub fn packet((did, sdid): (u8, u8), user: &[u16]) -> Vec<u16> {
     let header = [did, sdid, user.len() as u8].map(header_word);
     let summed = [&header, user].concat();
     [&MARKER[..], &summed, &[checksum(&summed)]].concat()
-}
-
-/// "a [..] checksum or header word to be made would be a reserved code"
-fn makes_reserved(packet: &[u16]) -> bool {
-    let made = [&packet[DID..USER], &packet[packet.len() - 1..]].concat();
-    any_reserved(&made)
 }
 
 #[cfg(test)]

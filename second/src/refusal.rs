@@ -16,8 +16,6 @@ pub enum Refusal {
     Packet = 6,
     /// "begin when open; feed or end when not; a session number outside the range docs/ gives for it"
     Session = 7,
-    /// "in building or correction, a timing code, line number, CRC, checksum or header word to be made would be a reserved code"
-    Made = 8,
     /// "bench file: tag not of 1 to 32 bytes or not printable ASCII without spaces, options not two bytes or wipe not 0 or 1,
     /// or cut short"
     File = 9,
@@ -29,8 +27,8 @@ impl Refusal {
     }
 }
 
-/// "Order where several apply: 7, 9, 4, 5, 2, 3, 6, 8, 1."
-const ORDER: [u32; 9] = [7, 9, 4, 5, 2, 3, 6, 8, 1];
+/// "Order where several apply: 7, 9, 4, 5, 2, 3, 6, 8, 1."; "8 is given no more".
+const ORDER: [u32; 8] = [7, 9, 4, 5, 2, 3, 6, 1];
 
 /// The first refusal, in the paper's order, whose condition holds.
 pub fn refuse(conditions: &[(Refusal, bool)]) -> Result<(), Refusal> {

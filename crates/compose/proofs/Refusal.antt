@@ -1,9 +1,8 @@
 -- Laws of the refusal of building: what a row that is built is built from.
 use mathlib.Core.Path.{_≡_, refl}
-use mathlib.Core.Bool.{Bool, true, false, _&&_, and-assoc}
+use mathlib.Core.Bool.{true, _&&_, and-assoc}
 use mathlib.Core.List.{List}
 use Prim.Native.Nat.{ℕ, zero, suc, _≤_}
-use native.Mathlib.Omega.{arith}
 use lib.Dec.{leb, eqb}
 use lib.ListN.{length}
 use borrow.Author.Tests.{eqb-true, leb-true}
@@ -20,7 +19,7 @@ use Rattle.plan.proofs.Rows.{orRefusal-first, orRefusal-none}
 use Rattle.row.specs.declared.Carry.{Carry}
 use Rattle.row.specs.declared.Carry.the-variants.{Nothing}
 use Rattle.row.specs.Before.{carryOk}
-use Rattle.compose.specs.Compose.{lengthsOk, unmakeableRow, roomOk, madeRefusal, refusalUnder, buildRefusal, builtFor}
+use Rattle.compose.specs.Compose.{lengthsOk, roomOk, refusalUnder, buildRefusal, builtFor}
 
 -- ---- lengthsOk
 
@@ -31,12 +30,12 @@ lengths-of p active laid e =
 
 -- ---- refusalUnder
 
--- with lengths that are right only words, carry and what is made are left
+-- with lengths that are right only words, carry and room are left
 pub refusalUnder-words : (p : Plan) (carry : Carry) (yActive cActive yLaid cLaid : List ℕ) (yRoom cRoom : ℕ)
     → lengthsOk p yActive yLaid ≡ true
     → lengthsOk p cActive cLaid ≡ true
     → refusalUnder p carry yActive cActive yLaid cLaid yRoom cRoom
-    ≡ if ((words10 yActive && words10 yLaid) && ((words10 cActive && words10 cLaid) && carryOk carry)) (madeRefusal p carry yRoom cRoom) 3
+    ≡ if ((words10 yActive && words10 yLaid) && ((words10 cActive && words10 cLaid) && carryOk carry)) (if (roomOk p yRoom cRoom) 0 1) 3
 refusalUnder-words p carry yActive cActive yLaid cLaid yRoom cRoom y c =
     rw (y, c, and-assoc (words10 yActive), and-assoc (words10 cActive))
 
@@ -65,11 +64,6 @@ pub record Buildable (code line : ℕ) (carry : Carry) (yActive cActive yLaid cL
   pub y-room : planOf code line .places .total ≤ yRoom
   pub c-room : planOf code line .places .total ≤ cRoom
 
--- what would be made is looked at before the room
-room-left : (bad room : Bool) → if {A = ℕ} bad 8 (if room 0 1) ≡ 0 → room ≡ true
-room-left true room e = absurd (omega arith)
-room-left false room e = if-zero room 0 0 e .0
-
 pub buildRefusal-ok : (code line : ℕ) (carry : Carry) (yActive cActive yLaid cLaid : List ℕ) (yRoom cRoom : ℕ)
     → buildRefusal code line carry yActive cActive yLaid cLaid yRoom cRoom ≡ 0
     → Buildable code line carry yActive cActive yLaid cLaid yRoom cRoom
@@ -78,13 +72,13 @@ buildRefusal-ok code line carry yActive cActive yLaid cLaid yRoom cRoom e =
     let p = planOf code line in
     let z = orRefusal-none (lineRefusal code line) _ e in
     let t = if-zero (lengthsOk p yActive yLaid && lengthsOk p cActive cLaid) _ 1 (z .1) in
-    let w = if-zero _ (madeRefusal p carry yRoom cRoom) 2 (t .1) in
+    let w = if-zero _ (if (roomOk p yRoom cRoom) 0 1) 2 (t .1) in
     let l = and-true (lengthsOk p yActive yLaid) _ (t .0) in
     let a = and-true (words10 yActive) _ (w .0) in
     let b = and-true (words10 yLaid) _ (a .1) in
     let c = and-true (words10 cActive) _ (b .1) in
     let d = and-true (words10 cLaid) _ (c .1) in
-    let r = and-true (leb (p .places .total) yRoom) _ (room-left (unmakeableRow p carry) (roomOk p yRoom cRoom) (w .1)) in
+    let r = and-true (leb (p .places .total) yRoom) _ (if-zero (roomOk p yRoom cRoom) 0 0 (w .1) .0) in
     record {
       ok = z .0;
       y-lengths = l .0;

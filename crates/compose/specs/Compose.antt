@@ -1,5 +1,5 @@
 -- Building a row: "raster, line, carry and, per channel, A active words and up to T-A-12 words laid from the start of the blanking".
-use mathlib.Core.Bool.{Bool, _&&_, _||_}
+use mathlib.Core.Bool.{Bool, _&&_}
 use mathlib.Core.List.{List, [], _∷_, _++_}
 use Prim.Native.Nat.{ℕ, zero, suc, _-_}
 use lib.Dec.{eqb, leb}
@@ -11,7 +11,7 @@ use Rattle.raster.specs.Lines.{lineRefusal}
 use Rattle.plan.specs.declared.Plan.{Plan}
 use Rattle.plan.specs.Plan.{planOf}
 use Rattle.plan.specs.Refusal.{orRefusal}
-use Rattle.stream.specs.Words.{yBlank, cBlank, trs, headWords, checkWords, unmakeable}
+use Rattle.stream.specs.Words.{yBlank, cBlank, trs, headWords, checkWords}
 use Rattle.row.specs.declared.Carry.{Carry}
 use Rattle.row.specs.declared.Carry.the-variants.{Nothing, Registers}
 use Rattle.row.specs.Before.{carried, carryOk}
@@ -41,24 +41,16 @@ cStream p carry active laid = streamOf p (carried carry .known) (carried carry .
 abbrev pub lengthsOk : Plan → List ℕ → List ℕ → Bool
 lengthsOk p active laid = eqb (length active) (p .places .count) && leb (length laid) (p .places .blanks)
 
--- "8: in building .., a timing code, line number, CRC .. to be made would be a reserved code"
-abbrev pub unmakeableRow : Plan → Carry → Bool
-unmakeableRow p carry =
-    unmakeable p (carried carry .known) (carried carry .y) || unmakeable p (carried carry .known) (carried carry .c)
-
 -- "1: .. row buffer too short .. for T"
 abbrev pub roomOk : Plan → ℕ → ℕ → Bool
 roomOk p yRoom cRoom = leb (p .places .total) yRoom && leb (p .places .total) cRoom
 
--- "Order where several apply: .., 4, 5, 2, 3, .., 8, 1."
-abbrev pub madeRefusal : Plan → Carry → ℕ → ℕ → ℕ
-madeRefusal p carry yRoom cRoom = if (unmakeableRow p carry) 8 (if (roomOk p yRoom cRoom) 0 1)
-
+-- "Order where several apply: .., 4, 5, 2, 3, .., 1."
 abbrev pub refusalUnder : Plan → Carry → List ℕ → List ℕ → List ℕ → List ℕ → ℕ → ℕ → ℕ
 refusalUnder p carry yActive cActive yLaid cLaid yRoom cRoom =
     if (lengthsOk p yActive yLaid && lengthsOk p cActive cLaid)
     (if (words10 yActive && (words10 yLaid && (words10 cActive && (words10 cLaid && carryOk carry))))
-    (madeRefusal p carry yRoom cRoom) 3) 2
+    (if (roomOk p yRoom cRoom) 0 1) 3) 2
 
 unfoldable pub buildRefusal : ℕ → ℕ → Carry → List ℕ → List ℕ → List ℕ → List ℕ → ℕ → ℕ → ℕ
 buildRefusal code line carry yActive cActive yLaid cLaid yRoom cRoom =

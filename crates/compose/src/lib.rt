@@ -13,7 +13,7 @@ ghost use Rattle.parts.specs.Parts.{laid, laidUnless};
 ghost use Rattle.plan.specs.Fits.{Fits};
 ghost use Rattle.plan.specs.Plan.{planOf};
 ghost use Rattle.stream.specs.Words.{headWords};
-ghost use Rattle.compose.specs.Compose.{buildRefusal, builtFor, cStream, crcFor, lengthsOk, madeRefusal, refusalUnder, streamOf, yStream};
+ghost use Rattle.compose.specs.Compose.{buildRefusal, builtFor, cStream, crcFor, lengthsOk, refusalUnder, roomOk, streamOf, yStream};
 
 pub struct Built {
     pub refusal: u8,
@@ -90,27 +90,17 @@ fn lay_stream(
     parts::lay(out, plan.places.active, active);
 }
 
-// The refusal of a row whose words are right; 8, 1.
-fn made_refusal(plan: Plan, carry: Carry, yroom: usize, croom: usize) -> u8
-    ensures { λ r. ⌜ r ≡ madeRefusal plan carry yroom croom ⌝ }
+// Whether two buffers have room for a row.
+fn room_ok(plan: Plan, yroom: usize, croom: usize) -> bool
+    ensures { λ r. ⌜ r ≡ roomOk plan yroom croom ⌝ }
 {
-    let before = row::carried(carry);
-    if stream::unmakeable(plan, before.known, before.y) {
-        return 8;
-    }
-    if stream::unmakeable(plan, before.known, before.c) {
-        return 8;
-    }
     if yroom < plan.places.total {
-        return 1;
+        return false;
     }
-    if croom < plan.places.total {
-        return 1;
-    }
-    0
+    plan.places.total <= croom
 }
 
-// The refusal of a row to be built under a plan; 2, 3, 8, 1.
+// The refusal of a row to be built under a plan; 2, 3, 1.
 fn refusal_under(
     plan: Plan,
     carry: Carry,
@@ -138,7 +128,10 @@ fn refusal_under(
     if !row::carry_ok(carry) {
         return 3;
     }
-    made_refusal(plan, carry, yroom, croom)
+    if !room_ok(plan, yroom, croom) {
+        return 1;
+    }
+    0
 }
 
 // A refusal, which leaves no carry.
@@ -151,7 +144,7 @@ fn refused(refusal: u8) -> Built
     }
 }
 
-// Builds a row at the start of two slices and answers the carry that it leaves; 4, 5, 2, 3, 8, 1.
+// Builds a row at the start of two slices and answers the carry that it leaves; 4, 5, 2, 3, 1.
 pub fn build(
     raster: u32,
     line: u32,

@@ -16,8 +16,8 @@ use Rattle.demands.proofs.Coding.{unscrambled-back, calls-cut}
 use Rattle.demands.proofs.BuiltNoFlag.{built-no-flag}
 use Rattle.demands.proofs.RowExtracted.{row-extracted}
 use Rattle.demands.proofs.CorrectedFlags.{corrected-flags}
-use Rattle.demands.proofs.NoneReserved.{none-reserved}
 use Rattle.demands.proofs.FeedsCut.{feeds-cut}
+use Rattle.demands.proofs.NoneReserved.{none-reserved}
 
 pub demand-two : DemandTwo
 unfolding FromTheEleventh XyzReadBack
@@ -35,8 +35,8 @@ demand-two =
       built-no-flag = built-no-flag;
       row-extracted = row-extracted;
       corrected-flags = corrected-flags;
-      none-reserved = none-reserved;
       feeds-cut = feeds-cut;
+      none-reserved = none-reserved;
       clean-passes = clean-passes;
       clean-passes-short = clean-passes-short;
       window-passes = window-passes;

@@ -25,17 +25,16 @@ use Rattle.plan.specs.Plan.{planOf}
 use Rattle.plan.specs.Refusal.{rowRefusal}
 use Rattle.plan.proofs.Plans.{planOf-refusal}
 use Rattle.packet.specs.Build as Packet
-use Rattle.packet.proofs.Refusals.{made-fit}
 use Rattle.finding.specs.Find.{findOf}
 use Rattle.finding.specs.Extract.{channelOf, packetsIn, extractRefusal, extractedFor, extracted}
 use Rattle.row.specs.Row.{carryAfter, judged, checkRefusal, checkedBy, checked}
-use Rattle.repair.specs.Answer.{correctRefusal, correctedFor, correctedY, correctedC, corrected}
+use Rattle.repair.specs.Answer.{correctedFor, correctedY, correctedC, corrected}
 use Rattle.compose.specs.Compose.{yStream, cStream, buildRefusal, builtFor}
 use Rattle.session.specs.Session.{beginRefusal, begunBy, begun, feedRefusal, fedRun, fedBy, fed, fedY, fedC, endRefusal, endedBy, ended}
 use Rattle.law_module.specs.Runs.{bench}
 use Rattle.reader.specs.Reader.{readOf}
 use Rattle.desk.specs.Desk as Desk
-use Rattle.law_refusal.proofs.Rows.{numbered, row-number, check-number, correct-number, extract-number, build-number}
+use Rattle.law_refusal.proofs.Rows.{numbered, row-number, check-number, extract-number, build-number}
 use Rattle.law_refusal.proofs.Files.{takeRefusal-by}
 use Rattle.demands.specs.Demands.{Test, firstFailed, Answers, Keeps, EachCall}
 use Rattle.demands.proofs.Cases.{of-test, of-tests, of-either}
@@ -76,7 +75,7 @@ each-call =
       read-line = λ code ln0 ln1. of-tests (λ (a : LineRead). a .refusal) (rasterOk code) (leb ln0 0x3ff && leb ln1 0x3ff) _ _ _;
       build-packet = λ did sdid user out.
           keeps (λ n. Packet.builtFor n user .refusal) (λ n. laidUnless n (Packet.packetOf did sdid user) out) refl (λ n. refl) (λ n. refl)
-          (Packet.buildRefusal did sdid user (length out)) (rw (made-fit did sdid user));
+          (Packet.buildRefusal did user (length out)) refl;
       find-packet = λ code line did sdid y c. (row-number code line y c, unlessRefused-refused (rowRefusal code line y c) _ []);
       extract = λ code line channel y c out.
           let packets = packetsIn code line (channelOf channel y c) in
@@ -89,7 +88,7 @@ each-call =
           let p = planOf code line in
           keeps (λ n. correctedFor n (carryAfter p (correctedY p carry wipe y) (correctedC p carry wipe c)) .refusal)
           (λ n. (unlessRefused n (correctedY p carry wipe y) y, unlessRefused n (correctedC p carry wipe c) c)) refl (λ n. refl) (λ n. refl)
-          (correctRefusal code line carry wipe y c) (correct-number code line y c carry wipe);
+          (checkRefusal code line carry y c) (check-number code line y c carry);
       build-row = λ code line carry yActive cActive yLaid cLaid y c.
           let p = planOf code line in
           keeps (λ n. builtFor n yActive cActive .refusal)

@@ -33,7 +33,7 @@ none-reserved =
       packet = λ did sdid user out made.
           let ok = sym (Found.made-number did sdid user out refl) ∙ made in
           ap (λ (l : List ℕ). any reservedCode (drop 3 l)) (Found.made-packet did sdid user out refl refl refl ok)
-          ∙ packet-free did sdid user (length out) ok;
+          ∙ packet-free did user (length out) sdid ok;
       row = λ code line carry yActive cActive yLaid cLaid y c made.
           let p = planOf code line in
           let free = row-free code line carry yActive cActive yLaid cLaid y c made in (

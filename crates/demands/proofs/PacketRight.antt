@@ -10,4 +10,4 @@ pub packet-right : PacketRight
 unfolding PacketRight
 packet-right did sdid user out made =
     let ok = sym (Found.made-number did sdid user out refl) ∙ made in
-    ap rightPacket (Found.made-packet did sdid user out refl refl refl ok) ∙ Found.packet-right did sdid user (lawful-of-built did sdid user (length out) ok .0 .few)
+    ap rightPacket (Found.made-packet did sdid user out refl refl refl ok) ∙ Found.packet-right did sdid user (lawful-of-built did user (length out) ok .0 .few)

@@ -33,9 +33,9 @@ use Rattle.finding.specs.Extract.{channelOf, packetsIn, extractRefusal, extract
 use Rattle.stream.specs.Words.{yBlank, cBlank}
 use Rattle.row.specs.declared.Carry.{Carry}
 use Rattle.row.specs.Before.{carried, carryOk}
-use Rattle.row.specs.Row.{flagsOf, checked}
+use Rattle.row.specs.Row.{flagsOf, checkRefusal, checked}
 use Rattle.repair.specs.Repair.{wipedIf}
-use Rattle.repair.specs.Answer.{correctRefusal, correctedY, correctedC, corrected}
+use Rattle.repair.specs.Answer.{correctedY, correctedC, corrected}
 use Rattle.compose.specs.Compose.{yStream, cStream, roomOk, buildRefusal, builtFor}
 use Rattle.law_row.specs.Lawful.{rightPacket}
 use Rattle.law_row.specs.Laid.{LawfulLine, PlaceAfter}
@@ -107,9 +107,9 @@ byteTests LowByte r b = []
 byteTests HighByte r b = 3 unless wordOk (wordOf (r .low) b) ∷ []
 byteTests Stopped r b = []
 
--- The calls that can refuse, each with its tests, "Order where several apply: 7, 9, 4, 5, 2, 3, 6, 8, 1.": which number is answered, and that it is
--- 0 where no condition holds. What is done then is the call's definition. 8 is nowhere: no word that is made is a reserved code. A call for the
--- number alone (`row_refusal`, `find_refusal`, `check_refusal`) answers it as the call that it stands for does.
+-- The calls that can refuse, each with its tests, "Order where several apply: 7, 9, 4, 5, 2, 3, 6, .., 1.": which number is answered, and that it is
+-- 0 where no condition holds. What is done then is the call's definition. A call for the number alone (`row_refusal`, `find_refusal`,
+-- `check_refusal`) answers it as the call that it stands for does.
 pub record EachCall : Type 0 where
   pub scramble : (h : ℕ) (ws out : List ℕ)
       → Keeps (3 unless leb h 0x3ff ∷ 3 unless words10 ws ∷ 1 unless leb (length ws) (length out) ∷ [])
@@ -130,8 +130,8 @@ pub record EachCall : Type 0 where
   pub read-line : (code ln0 ln1 : ℕ) → Answers (4 unless rasterOk code ∷ 3 unless (leb ln0 0x3ff && leb ln1 0x3ff) ∷ []) (lineRead code ln0 ln1 .refusal)
   pub build-packet : (did sdid : ℕ) (user out : List ℕ)
       → Keeps (3 unless words10 user ∷ 6 unless buildable did user ∷ 1 unless leb (length user + 7) (length out) ∷ [])
-      (Packet.built did sdid user (length out) .refusal) out
-      (laidUnless (Packet.buildRefusal did sdid user (length out)) (Packet.packetOf did sdid user) out)
+      (Packet.built did user (length out) .refusal) out
+      (laidUnless (Packet.buildRefusal did user (length out)) (Packet.packetOf did sdid user) out)
   -- find answers a part, an empty one where it is refused
   pub find-packet : (code line did sdid : ℕ) (y c : List ℕ)
       → Answers (4 unless rasterOk code ∷ 5 unless lineOk code line ∷ 2 unless rowsOk code y c ∷ 3 unless wordsOk y c ∷ []) (rowRefusal code line y c)
@@ -151,7 +151,7 @@ pub record EachCall : Type 0 where
       (4 unless rasterOk code ∷ 5 unless lineOk code line ∷ 2 unless rowsOk code y c ∷ 3 unless (wordsOk y c && carryOk carry) ∷ [])
       (checked code line carry y c .refusal)
   pub correct-row : (code line : ℕ) (carry : Carry) (wipe : Bool) (y c : List ℕ)
-      → let n = correctRefusal code line carry wipe y c in
+      → let n = checkRefusal code line carry y c in
       Keeps {Lent = List ℕ × List ℕ}
       (4 unless rasterOk code ∷ 5 unless lineOk code line ∷ 2 unless rowsOk code y c ∷ 3 unless (wordsOk y c && carryOk carry) ∷ [])
       (corrected code line carry wipe y c .refusal) (y, c)
@@ -298,12 +298,12 @@ LineReadBack = (code line ln0 ln1 : ℕ) → (line ≡ 0 → ⊥)
 -- the packet that building leaves at the start of its output
 abbrev pub builtPacket : ℕ → ℕ → List ℕ → List ℕ → List ℕ
 builtPacket did sdid user out =
-    part 0 (Packet.built did sdid user (length out) .words)
-    (laidUnless (Packet.buildRefusal did sdid user (length out)) (Packet.packetOf did sdid user) out)
+    part 0 (Packet.built did user (length out) .words)
+    (laidUnless (Packet.buildRefusal did user (length out)) (Packet.packetOf did sdid user) out)
 
 -- it is whole and has a right checksum: one of the packets that a line may be built from (`LawfulLine`)
 unfoldable pub PacketRight : Type 0
-PacketRight = (did sdid : ℕ) (user out : List ℕ) → Packet.built did sdid user (length out) .refusal ≡ 0 → rightPacket (builtPacket did sdid user out) ≡ true
+PacketRight = (did sdid : ℕ) (user out : List ℕ) → Packet.built did user (length out) .refusal ≡ 0 → rightPacket (builtPacket did sdid user out) ≡ true
 
 -- "A packet is found by its DID and SDID bytes.": one that is built and laid into the blanking of Y, after whole packets of which none is
 -- wanted or at the start, is found, whatever the other words of the row are
@@ -311,7 +311,7 @@ unfoldable pub PacketFound : Type 0
 PacketFound = (code line did sdid at : ℕ) (user out y c : List ℕ) (packets : List (List ℕ))
     → did < 256
     → sdid < 256
-    → Packet.built did sdid user (length out) .refusal ≡ 0
+    → Packet.built did user (length out) .refusal ≡ 0
     → rowRefusal code line y c ≡ 0
     → PlaceAfter code line did sdid user y at packets
     → findOf code line did sdid (laid at (builtPacket did sdid user out) y) c ≡ builtPacket did sdid user out
@@ -375,7 +375,7 @@ RowExtracted = (code line : ℕ) (carry : Carry) (yActive cActive yLaid cLaid y 
 -- "Rechecked with the same carried CRC, flags 0 to 6 are clear; 7 and 8 remain as they were. If wiping is chosen, .. all else, flag 7 too,
 -- then follows from the wiped row.": 128 parts flags 0 to 6 from 7 and 8
 unfoldable pub CorrectedFlags : Type 0
-CorrectedFlags = (code line : ℕ) (carry : Carry) (wipe : Bool) (y c : List ℕ) → correctRefusal code line carry wipe y c ≡ 0
+CorrectedFlags = (code line : ℕ) (carry : Carry) (wipe : Bool) (y c : List ℕ) → checkRefusal code line carry y c ≡ 0
     → let p = planOf code line in
     let seen = checked code line carry (correctedY p carry wipe y) (correctedC p carry wipe c) in
     (seen .refusal ≡ 0)
@@ -383,12 +383,18 @@ CorrectedFlags = (code line : ℕ) (carry : Carry) (wipe : Bool) (y c : List ℕ
     × (seen .flags / 128 ≡ flagsOf p carry (wipedIf wipe p yBlank y) (wipedIf wipe p cBlank c) / 128)
     × (wipe ≡ false → seen .flags / 128 ≡ checked code line carry y c .flags / 128)
 
+-- "Cutting the words anywhere into feeds changes nothing.": where all of them are taken in one feed, pieces of them leave the same
+unfoldable pub FeedsCut : Type 0
+FeedsCut = (feeds : List (List ℕ)) (x : Bench) → feedRefusal (x .session) (endToEnd feeds) (x .y) (x .c) ≡ 0 → fedAll feeds x ≡ fedOnce (endToEnd feeds) x
+
 -- ---- (request 7) "Every word we make has bit 9 the inverse of bit 8, or is one of the eight timing codes ..": "no made XYZ, line number, CRC,
 -- ---- checksum or header word falls in the reserved ranges for any input"
 
+-- none of these words is a reserved code
 abbrev pub Free : List ℕ → Type 0
 Free ws = any reservedCode ws ≡ false
 
+-- the one law, and each kind of word: any F, V and H, any line of any raster, any register, any words summed, any byte
 pub record NoneReserved : Type 0 where
   pub inverse : (w : ℕ) → w ≤ 0x3ff → odd (w / 512) ≡ not (odd (w / 256)) → Free (w ∷ [])
   pub xyz : (f v h : Bool) → Free (xyzOf f v h ∷ [])
@@ -396,24 +402,21 @@ pub record NoneReserved : Type 0 where
   pub crc : (register : ℕ) → Free (cr0 register ∷ cr1 register ∷ [])
   pub checksum : (ws : List ℕ) → Free (checksumOf ws ∷ [])
   pub header : (byte : ℕ) → Free (Packet.headerWord byte ∷ [])
-  -- so of what the calls leave: a packet after its 000 3FF 3FF; a row that is built, in both channels; one that is corrected, its checksums too
-  pub packet : (did sdid : ℕ) (user out : List ℕ) → Packet.built did sdid user (length out) .refusal ≡ 0
+  -- so of what the calls leave: a packet after its 000 3FF 3FF; of a row that is built, in both channels, what is made; and of one that is corrected,
+  -- its checksums too
+  pub packet : (did sdid : ℕ) (user out : List ℕ) → Packet.built did user (length out) .refusal ≡ 0
       → Free (drop 3 (builtPacket did sdid user out))
   pub row : (code line : ℕ) (carry : Carry) (yActive cActive yLaid cLaid y c : List ℕ)
       → buildRefusal code line carry yActive cActive yLaid cLaid (length y) (length c) ≡ 0
       → let p = planOf code line in
       Free (madeWords p true (builtRow code line (yStream p carry yActive yLaid) y))
       × Free (madeWords p true (builtRow code line (cStream p carry cActive cLaid) c))
-  pub corrected : (code line : ℕ) (carry : Carry) (wipe : Bool) (y c : List ℕ) → correctRefusal code line carry wipe y c ≡ 0
+  pub corrected : (code line : ℕ) (carry : Carry) (wipe : Bool) (y c : List ℕ) → checkRefusal code line carry y c ≡ 0
       → let p = planOf code line in
       let known = carried carry .known in
       let yRow = correctedY p carry wipe y in
       let cRow = correctedC p carry wipe c in
       Free (madeWords p known yRow ++ sumsOf p yRow) × Free (madeWords p known cRow ++ sumsOf p cRow)
-
--- "Cutting the words anywhere into feeds changes nothing.": where all of them are taken in one feed, pieces of them leave the same
-unfoldable pub FeedsCut : Type 0
-FeedsCut = (feeds : List (List ℕ)) (x : Bench) → feedRefusal (x .session) (endToEnd feeds) (x .y) (x .c) ≡ 0 → fedAll feeds x ≡ fedOnce (endToEnd feeds) x
 
 -- A clean signal passes: N + 2 lines or more built one after the other, the first with any carry or none, each other with that of the line before,
 -- of words and packets as above, in which no word after the 000 3FF 3FF is a reserved code; after bits in which each sync's pair ends and is no EAV, and
@@ -432,8 +435,8 @@ pub record DemandTwo : Type 0 where
   pub built-no-flag : BuiltNoFlag
   pub row-extracted : RowExtracted
   pub corrected-flags : CorrectedFlags
-  pub none-reserved : NoneReserved
   pub feeds-cut : FeedsCut
+  pub none-reserved : NoneReserved
   pub clean-passes : CleanPasses
   pub clean-passes-short : CleanPassesShort
   pub window-passes : WindowPasses

@@ -1,37 +1,23 @@
 -- Which number each call on packets and rows gives: one cascade of five tests, in the order of the table.
-use mathlib.Core.Path.{_≡_, refl, sym, _∙_}
+use mathlib.Core.Path.{_≡_, refl}
 use mathlib.Core.Bool.{Bool, true, false, _&&_, and-assoc}
 use mathlib.Core.List.{List}
 use Prim.Native.Nat.{ℕ}
-use native.Mathlib.Omega.{arith}
 use lib.Dec.{leb}
 use lib.ListN.{length}
 use Rattle.bits.specs.Choice.{if}
 use Rattle.bits.specs.Words.{words10}
-use Rattle.bits.proofs.Choice.{and-true}
-use Rattle.crc.specs.Crc.{registerOk}
 use Rattle.raster.specs.Table.{rasterOk}
 use Rattle.raster.specs.Lines.{lineOk, lineRefusal}
-use Rattle.raster.proofs.Lines.{ok-lineRefusal}
 use Rattle.plan.specs.Plan.{planOf}
 use Rattle.plan.specs.Refusal.{orRefusal, rowRefusal}
-use Rattle.plan.proofs.Plans.{planOf-fits, planOf-plain}
-use Rattle.stream.proofs.Makeable.{unmakeable-never}
 use Rattle.finding.specs.declared.Channel.{Channel}
 use Rattle.finding.specs.Extract.{channelOf, extractRefusal, packetsIn}
 use Rattle.row.specs.declared.Carry.{Carry}
-use Rattle.row.specs.declared.Carry.the-variants.{Nothing, Registers}
 use Rattle.row.specs.Before.{carryOk}
 use Rattle.row.specs.Row.{checkRefusal}
-use Rattle.repair.specs.Answer.{correctRefusal}
-use Rattle.repair.proofs.Refusals.{correctRefusal-check}
-use Rattle.compose.specs.Compose.{buildRefusal, roomOk, unmakeableRow}
+use Rattle.compose.specs.Compose.{buildRefusal, roomOk}
 use Rattle.law_refusal.specs.Rows.{Listed, Sized, Sound, partsOk, rowsOk, wordsOk}
-
--- 8 is none of the numbers of a cascade
-pub not-eight : (test : Bool) (right wrong : ℕ) → (right ≡ 8 → ⊥) → (wrong ≡ 8 → ⊥) → if test right wrong ≡ 8 → ⊥
-not-eight true right wrong r w = r
-not-eight false right wrong r w = w
 
 unfoldable pub numbered : ℕ → ℕ → Bool → Bool → Bool → ℕ
 numbered code line lengths words room =
@@ -45,7 +31,6 @@ pub record Clauses (code line : ℕ) (lengths words room : Bool) (n : ℕ) : Typ
   pub three : Sized code line lengths → words ≡ false → n ≡ 3
   pub one : Sound code line lengths words → room ≡ false → n ≡ 1
   pub done : Sound code line lengths words → room ≡ true → n ≡ 0
-  pub eight : n ≡ 8 → ⊥
 
 pub clauses : (code line : ℕ) (lengths words room : Bool) {n : ℕ} → n ≡ numbered code line lengths words room → Clauses code line lengths words room n
 unfolding numbered
@@ -57,15 +42,6 @@ clauses code line lengths words room e =
       three = λ s a. rw (e, s .0 .0, s .0 .1, s .1, a);
       one = λ s a. rw (e, s .0 .0 .0, s .0 .0 .1, s .0 .1, s .1, a);
       done = λ s a. rw (e, s .0 .0 .0, s .0 .0 .1, s .0 .1, s .1, a);
-      eight = λ z.
-          not-eight (rasterOk code) _ 4
-          (not-eight (lineOk code line) _ 5
-          (not-eight lengths _ 2
-          (not-eight words _ 3 (not-eight room 0 1 (λ k. omega arith) (λ k. omega arith)) (λ k. omega arith))
-          (λ k. omega arith))
-          (λ k. omega arith))
-          (λ k. omega arith)
-          (sym e ∙ z);
     }
 
 -- ---- what is refused after raster and line, or after the row
@@ -110,42 +86,19 @@ module _ (code line : ℕ) where
         go true k = refl
         go false k = refl
 
-    pub correct-number : (carry : Carry) (wipe : Bool)
-        → correctRefusal code line carry wipe y c ≡ numbered code line (rowsOk code y c) (wordsOk y c && carryOk carry) true
-    correct-number carry wipe = correctRefusal-check code line carry wipe y c ∙ check-number carry
-
     pub extract-number : (channel : Channel) (room : ℕ)
         → extractRefusal code line channel y c room
         ≡ numbered code line (rowsOk code y c) (wordsOk y c) (leb (length (packetsIn code line (channelOf channel y c))) room)
     unfolding extractRefusal
     extract-number channel room = after-row (wordsOk y c) _ _ refl
 
-  -- ---- a row that is built: what is made is never a reserved code
+  -- ---- a row that is built
 
   module _ (carry : Carry) (yActive cActive yLaid cLaid : List ℕ) (yRoom cRoom : ℕ) where
     abbrev wordsGiven : Bool
     wordsGiven = wordsOk yActive yLaid && (wordsOk cActive cLaid && carryOk carry)
 
-    makeable : lineRefusal code line ≡ 0 → (k : Carry) → carryOk k ≡ true → unmakeableRow (planOf code line) k ≡ false
-    makeable ok Nothing right = let never = unmakeable-never (planOf code line) (planOf-fits code line ok) (planOf-plain code line ok) in rw (never false 0 refl)
-    makeable ok (Registers y c) right =
-        let never = unmakeable-never (planOf code line) (planOf-fits code line ok) (planOf-plain code line ok) in
-        let each = and-true (registerOk y) (registerOk c) right in
-        rw (never true y (each .0), never true c (each .1))
-
     pub build-number : buildRefusal code line carry yActive cActive yLaid cLaid yRoom cRoom
         ≡ numbered code line (partsOk (planOf code line) yActive cActive yLaid cLaid) wordsGiven (roomOk (planOf code line) yRoom cRoom)
     unfolding buildRefusal numbered
-    build-number =
-        let p = planOf code line in
-        rw (after-line, ← and-assoc (words10 yActive), ← and-assoc (words10 cActive))
-        (go (rasterOk code) (lineOk code line) (partsOk p yActive cActive yLaid cLaid) wordsGiven (unmakeableRow p carry) (roomOk p yRoom cRoom)
-        (λ a b w. makeable (ok-lineRefusal code line a b) carry (and-true (wordsOk cActive cLaid) _ (and-true (wordsOk yActive yLaid) _ w .1) .1)))
-      where
-        go : (a b l w u r : Bool) → (a ≡ true → b ≡ true → w ≡ true → u ≡ false)
-            → if {A = ℕ} a (if b (if l (if w (if u 8 (if r 0 1)) 3) 2) 5) 4 ≡ if a (if b (if l (if w (if r 0 1) 3) 2) 5) 4
-        go true true true true u r h = rw (h refl refl refl)
-        go true true true false u r h = refl
-        go true true false w u r h = refl
-        go true false l w u r h = refl
-        go false b l w u r h = refl
+    build-number = rw (after-line, ← and-assoc (words10 yActive), ← and-assoc (words10 cActive))

@@ -9,7 +9,7 @@ use Rattle.parts.specs.Parts.{unlessRefused}
 use Rattle.parts.proofs.Laid.{length-laid, unlessRefused-refused}
 use Rattle.plan.specs.declared.Plan.{Plan}
 use Rattle.plan.specs.Plan.{planOf}
-use Rattle.plan.proofs.Rows.{RowFits, orRefusal-none, rowRefusal-ok}
+use Rattle.plan.proofs.Rows.{RowFits, rowRefusal-ok}
 use Rattle.stream.specs.Words.{cBlank, checkWords, coveredBy, yBlank}
 use Rattle.row.specs.declared.Carry.{Carry}
 use Rattle.row.specs.declared.Checked.{Checked}
@@ -18,7 +18,7 @@ use Rattle.row.specs.Row.{carryAfter, checked, checkRefusal, flagsOf}
 use Rattle.row.proofs.Rows.{checkRefusal-ok}
 use Rattle.repair.specs.declared.Corrected.{Corrected}
 use Rattle.repair.specs.Repair.{correctedStream, putRight, wipedIf, withCodes, withCrc, withSums}
-use Rattle.repair.specs.Answer.{corrected, correctedC, correctedFor, correctedY, correctRefusal}
+use Rattle.repair.specs.Answer.{corrected, correctedC, correctedFor, correctedY}
 use Rattle.law_row.proofs.CorrectedParts.{wipedIf-length, withCodes-length, withSums-length}
 use Rattle.law_row.proofs.CorrectedRows.{Right, correction-right}
 use Rattle.law_row.proofs.Checked.{row-checked}
@@ -41,7 +41,7 @@ corrected-length p wipe blank known r ws =
 
 module _ (code line : ℕ) (carry : Carry) (wipe : Bool) (y c : List ℕ) where
   abbrev refusal : ℕ
-  refusal = correctRefusal code line carry wipe y c
+  refusal = checkRefusal code line carry y c
 
   abbrev plan : Plan
   plan = planOf code line
@@ -57,9 +57,8 @@ module _ (code line : ℕ) (carry : Carry) (wipe : Bool) (y c : List ℕ) where
     pub registers : carryOk carry ≡ true
 
   pub before : refusal ≡ 0 → Before
-  unfolding correctRefusal
   before ok =
-      let free = checkRefusal-ok code line carry y c (orRefusal-none (checkRefusal code line carry y c) _ ok .0) in
+      let free = checkRefusal-ok code line carry y c ok in
       record { fits = rowRefusal-ok code line y c (free .0); registers = free .1 }
 
   after : Before → RowFits code line (correctedY plan carry wipe y) (correctedC plan carry wipe c)

@@ -135,32 +135,32 @@ builtFor-none : (n : ℕ) (user : List ℕ) → (n ≡ 0 → ⊥) → builtFor n
 builtFor-none zero user bad = absurd (bad refl)
 builtFor-none (suc n) user bad = refl
 
-module _ (did sdid : ℕ) (user out : List ℕ) {made : Built} (b : made ≡ built did sdid user (length out)) where
-  pub made-number : made .refusal ≡ buildRefusal did sdid user (length out)
+module _ (did sdid : ℕ) (user out : List ℕ) {made : Built} (b : made ≡ built did user (length out)) where
+  pub made-number : made .refusal ≡ buildRefusal did user (length out)
   unfolding built
-  made-number = ap (λ r. r .refusal) b ∙ builtFor-number (buildRefusal did sdid user (length out)) user
+  made-number = ap (λ r. r .refusal) b ∙ builtFor-number (buildRefusal did user (length out)) user
 
   -- the first words of the output are the packet
-  pub made-packet : {out-after whole : List ℕ} → out-after ≡ laidUnless (buildRefusal did sdid user (length out)) (packetOf did sdid user) out
-      → whole ≡ part 0 (made .words) out-after → buildRefusal did sdid user (length out) ≡ 0 → whole ≡ packetOf did sdid user
+  pub made-packet : {out-after whole : List ℕ} → out-after ≡ laidUnless (buildRefusal did user (length out)) (packetOf did sdid user) out
+      → whole ≡ part 0 (made .words) out-after → buildRefusal did user (length out) ≡ 0 → whole ≡ packetOf did sdid user
   unfolding built
   made-packet o w ok =
       let p = packetOf did sdid user in
       let long = length-packet did sdid user in
-      let room = lawful-of-built did sdid user (length out) ok .1 in
+      let room = lawful-of-built did user (length out) ok .1 in
       let count : made .words ≡ length user + 7 = ap (λ r. r .words) b ∙ ap (λ (n : ℕ). builtFor n user .words) ok in
       w ∙ ap₂ (part 0) count (o ∙ ap (λ (n : ℕ). laidUnless n p out) ok)
       ∙ part-over-laid 0 (length user + 7) p out (long ∙ sym (length-take-le (length user + 7) out room))
 
 module _ (code line did sdid : ℕ) (user out y c : List ℕ) where
   abbrev refusal : ℕ
-  refusal = buildRefusal did sdid user (length out)
+  refusal = buildRefusal did user (length out)
 
   -- the row is refused first
   pub sought-refused : (n : ℕ) → n ≡ rowRefusal code line y c → (n ≡ 0 → ⊥) → n ≡ orRefusal (rowRefusal code line y c) refusal
   sought-refused n e bad = e ∙ sym (orRefusal-first (rowRefusal code line y c) refusal (λ z. bad (e ∙ z)))
 
-  module _ {made : Built} (b : made ≡ built did sdid user (length out)) where
+  module _ {made : Built} (b : made ≡ built did user (length out)) where
     number : made .refusal ≡ refusal
     number = made-number did sdid user out b
 
@@ -189,7 +189,7 @@ module _ (code line did sdid : ℕ) (user out y c : List ℕ) where
             let p = packetOf did sdid user in
             let ok : refusal ≡ 0 = sym number ∙ none in
             let e = made-packet did sdid user out b o w ok in
-            let lawful = lawful-of-built did sdid user (length out) ok .0 in
+            let lawful = lawful-of-built did user (length out) ok .0 in
             let there-is = packet-found code line did sdid user y c packets (rowRefusal-ok code line y c free) (lawful .few) d s at placed (lawful .words) in
             let same-there = f ∙ ap (λ (l : List ℕ). findOf code line did sdid l c) (l ∙ ap (λ (ws : List ℕ). laid at ws y) e) ∙ there-is in
             a ∙ ap₂ same same-there e ∙ same-refl p

@@ -24,9 +24,10 @@ use Rattle.region.specs.Ancillary.{ancillary}
 use Rattle.stream.specs.Words.{yBlank, cBlank, trs, lineWordsOf, headWords, checkWords, eavOf, linesOf, headOf, checksOf, savOf}
 use Rattle.row.specs.declared.Carry.{Carry}
 use Rattle.row.specs.Before.{carried}
+use Rattle.row.specs.Row.{checkRefusal}
 use Rattle.row.proofs.Rows.{carried-ok}
 use Rattle.repair.specs.Repair.{wipedIf, putRight}
-use Rattle.repair.specs.Answer.{correctRefusal, correctedY, correctedC}
+use Rattle.repair.specs.Answer.{correctedY, correctedC}
 use Rattle.compose.specs.Compose.{crcFor, streamOf, yStream, cStream, buildRefusal}
 use Rattle.compose.proofs.Refusal.{buildRefusal-ok, lengths-of}
 use Rattle.law_row.specs.MadeWords.{madeWords, sumWords, sumsOf}
@@ -122,7 +123,7 @@ module _ (code line : ℕ) (carry : Carry) where
         free (carried carry .c) (registers .1) cBlank cActive cLaid (long-c .0) (long-c .1),
       )
 
-  pub correction-free : (wipe : Bool) (y c : List ℕ) → correctRefusal code line carry wipe y c ≡ 0
+  pub correction-free : (wipe : Bool) (y c : List ℕ) → checkRefusal code line carry y c ≡ 0
       → let yRow = correctedY plan carry wipe y in
       let cRow = correctedC plan carry wipe c in
       (any reservedCode (madeWords plan known yRow ++ sumsOf plan yRow) ≡ false) × (any reservedCode (madeWords plan known cRow ++ sumsOf plan cRow) ≡ false)

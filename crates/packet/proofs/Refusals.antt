@@ -13,16 +13,8 @@ use Rattle.parts.specs.Parts.{any, laidUnless}
 use Rattle.parts.proofs.Comparing.{any-of-append}
 use Rattle.scan.specs.Packet.{checksumOf}
 use Rattle.scan.proofs.Packets.{checksum-not-reserved}
-use Rattle.packet.specs.Build.{bodyOf, packetOf, buildable, madeFit, buildRefusal, builtFor}
+use Rattle.packet.specs.Build.{bodyOf, packetOf, buildable, buildRefusal, builtFor}
 use Rattle.packet.proofs.Words.{header-not-reserved}
-
--- ---- madeFit: no word that is made is a reserved code
-
-pub made-fit : (did sdid : ℕ) (user : List ℕ) → madeFit did sdid user ≡ true
-unfolding any
-made-fit did sdid user =
-    rw
-    (header-not-reserved did, header-not-reserved sdid, header-not-reserved (length user), checksum-not-reserved (bodyOf did sdid user))
 
 -- ---- buildRefusal
 
@@ -32,25 +24,23 @@ pub record Lawful (did : ℕ) (user : List ℕ) : Type 0 where
   pub few : length user ≤ 255
   pub free : any reservedCode user ≡ false
 
-module _ (did sdid : ℕ) (user : List ℕ) (room : ℕ) where
-  pub refusal-of-lawful : Lawful did user
-      → buildRefusal did sdid user room ≡ if (madeFit did sdid user) (if (leb (length user + 7) room) 0 1) 8
+module _ (did : ℕ) (user : List ℕ) (room : ℕ) where
+  refusal-of-lawful : Lawful did user → buildRefusal did user room ≡ if (leb (length user + 7) room) 0 1
   unfolding buildRefusal
   refusal-of-lawful l = rw (l .words, ne-eqb did 0 (l .some), le-leb (length user) 255 (l .few), l .free)
 
-  pub refusal-of-short : Lawful did user → room < length user + 7 → buildRefusal did sdid user room ≡ 1
-  refusal-of-short l h = refusal-of-lawful l ∙ rw (made-fit did sdid user, lt-leb (length user + 7) room h)
+  pub refusal-of-short : Lawful did user → room < length user + 7 → buildRefusal did user room ≡ 1
+  refusal-of-short l h = refusal-of-lawful l ∙ rw (lt-leb (length user + 7) room h)
 
-  pub refusal-of-room : Lawful did user → length user + 7 ≤ room → buildRefusal did sdid user room ≡ 0
-  refusal-of-room l h = refusal-of-lawful l ∙ rw (made-fit did sdid user, le-leb (length user + 7) room h)
+  pub refusal-of-room : Lawful did user → length user + 7 ≤ room → buildRefusal did user room ≡ 0
+  refusal-of-room l h = refusal-of-lawful l ∙ rw (le-leb (length user + 7) room h)
 
   -- what is built is lawful and has room
-  pub lawful-of-built : buildRefusal did sdid user room ≡ 0 → Lawful did user × (length user + 7 ≤ room)
+  pub lawful-of-built : buildRefusal did user room ≡ 0 → Lawful did user × (length user + 7 ≤ room)
   unfolding buildRefusal
   lawful-of-built e =
       let w = if-zero (words10 user) _ 2 e in
       let d = if-zero (buildable did user) _ 5 (w .1) in
-      let m = if-zero (madeFit did sdid user) _ 7 (d .1) in
       let some = and-true (not (eqb did 0)) _ (d .0) in
       let few = and-true (leb (length user) 255) _ (some .1) in (
         record {
@@ -59,13 +49,13 @@ module _ (did sdid : ℕ) (user : List ℕ) (room : ℕ) where
           few = leb-true (length user) 255 (few .0);
           free = not-true (any reservedCode user) (few .1);
         },
-        leb-true (length user + 7) room (if-zero (leb (length user + 7) room) 0 0 (m .1) .0),
+        leb-true (length user + 7) room (if-zero (leb (length user + 7) room) 0 0 (d .1) .0),
       )
 
   -- .. and no word of it after the 000 3FF 3FF is a reserved code
-  pub packet-free : buildRefusal did sdid user room ≡ 0 → any reservedCode (drop 3 (packetOf did sdid user)) ≡ false
+  pub packet-free : (sdid : ℕ) → buildRefusal did user room ≡ 0 → any reservedCode (drop 3 (packetOf did sdid user)) ≡ false
   unfolding packetOf any
-  packet-free e =
+  packet-free sdid e =
       let sum = checksumOf (bodyOf did sdid user) in
       rw (
         header-not-reserved did,

@@ -27,24 +27,15 @@ packetOf did sdid user = marker ++ (bodyOf did sdid user ++ (checksumOf (bodyOf 
 abbrev pub buildable : ℕ → List ℕ → Bool
 buildable did user = not (eqb did 0) && (leb (length user) 255 && not (any reservedCode user))
 
--- "8: in building .., a .. checksum or header word to be made would be a reserved code"
-abbrev pub madeFit : ℕ → ℕ → List ℕ → Bool
-madeFit did sdid user =
-    not
-    (any reservedCode
-    (headerWord did ∷ headerWord sdid ∷ headerWord (length user) ∷ checksumOf (bodyOf did sdid user) ∷ []))
-
--- "1: output .. too short for the result"; "Order where several apply: .., 3, 6, 8, 1."
-unfoldable pub buildRefusal : ℕ → ℕ → List ℕ → ℕ → ℕ
-buildRefusal did sdid user room =
-    if (words10 user)
-    (if (buildable did user)
-    (if (madeFit did sdid user) (if (leb (length user + 7) room) 0 1) 8) 6) 3
+-- "1: output .. too short for the result"; "Order where several apply: .., 3, 6, .., 1."
+unfoldable pub buildRefusal : ℕ → List ℕ → ℕ → ℕ
+buildRefusal did user room =
+    if (words10 user) (if (buildable did user) (if (leb (length user + 7) room) 0 1) 6) 3
 
 -- how many words were written, or the refusal's number with zero
 abbrev pub builtFor : ℕ → List ℕ → Built
 builtFor zero user = record { refusal = 0; words = length user + 7 }
 builtFor (suc n) user = record { refusal = suc n; words = 0 }
 
-unfoldable pub built : ℕ → ℕ → List ℕ → ℕ → Built
-built did sdid user room = builtFor (buildRefusal did sdid user room) user
+unfoldable pub built : ℕ → List ℕ → ℕ → Built
+built did user room = builtFor (buildRefusal did user room) user

@@ -44,9 +44,9 @@ fn made_words(did: u8, sdid: u8, user: &[u16]) -> Made
     }
 }
 
-// 3, 6, 8, 1.
-fn build_refusal(did: u8, sdid: u8, user: &[u16], room: usize) -> u8
-    ensures { λ r. ⌜ r ≡ buildRefusal did sdid (now (user .entry)) room ⌝ }
+// 3, 6, 1.
+fn build_refusal(did: u8, user: &[u16], room: usize) -> u8
+    ensures { λ r. ⌜ r ≡ buildRefusal did (now (user .entry)) room ⌝ }
 {
     if !bits::all_words(user) {
         return 3;
@@ -59,10 +59,6 @@ fn build_refusal(did: u8, sdid: u8, user: &[u16], room: usize) -> u8
     }
     if parts::any_reserved(user) {
         return 6;
-    }
-    let made = made_words(did, sdid, user);
-    if parts::any_reserved(&[made.did, made.sdid, made.dc, made.checksum]) {
-        return 8;
     }
     if room < user.len() + 7 {
         return 1;
@@ -81,12 +77,12 @@ fn lay_packet(out: &mut [u16], did: u8, sdid: u8, user: &[u16])
     bits::put(out, user.len() + 6, made.checksum);
 }
 
-// Builds a packet at the start of the output; 3, 6, 8, 1.
+// Builds a packet at the start of the output; 3, 6, 1.
 pub fn build(did: u8, sdid: u8, user: &[u16], out: &mut [u16]) -> Built
-    ensures answer { λ r. ⌜ r ≡ built did sdid (now (user .entry)) (length (now (out .entry))) ⌝ }
-    ensures buffer { λ _. ⌜ now (out .exit) ≡ laidUnless (buildRefusal did sdid (now (user .entry)) (length (now (out .entry)))) (packetOf did sdid (now (user .entry))) (now (out .entry)) ⌝ }
+    ensures answer { λ r. ⌜ r ≡ built did (now (user .entry)) (length (now (out .entry))) ⌝ }
+    ensures buffer { λ _. ⌜ now (out .exit) ≡ laidUnless (buildRefusal did (now (user .entry)) (length (now (out .entry)))) (packetOf did sdid (now (user .entry))) (now (out .entry)) ⌝ }
 {
-    let refusal = build_refusal(did, sdid, user, out.len());
+    let refusal = build_refusal(did, user, out.len());
     if refusal != 0 {
         return Built { refusal, words: 0 };
     }

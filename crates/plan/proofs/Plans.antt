@@ -108,9 +108,8 @@ pub record Planned (code line : ℕ) (p : Plan) : Type 0 where
   pub ok : lineRefusal code line ≡ 0
   pub same : p ≡ planIn (lookedUp code .raster) line
   pub fits : Fits (p .places)
-  pub plain : Plain (p .codes)
 
 pub plan-found : (code line : ℕ) (p : Plan) → p ≡ planOf code line → p .refusal ≡ 0 → Planned code line p
 plan-found code line p e z =
     let ok = planOf-ok code line (sym (ap (λ r. r .refusal) e) ∙ z) in
-    record { ok = ok; same = e ∙ planOf-found code line ok; fits = rw e (planOf-fits code line ok); plain = rw e (planOf-plain code line ok) }
+    record { ok = ok; same = e ∙ planOf-found code line ok; fits = rw e (planOf-fits code line ok) }

@@ -11,7 +11,7 @@ use Rattle.parts.proofs.Comparing.{any-of-append}
 use Rattle.parts.proofs.Inside.{length-inPart, part-of-inPart, part-before-inPart, part-after-inPart}
 use Rattle.plan.specs.declared.Plan.{Plan}
 use Rattle.scan.specs.declared.Scanned.{Scanned}
-use Rattle.scan.specs.Scan.{Piece, Word, Marker, Packet, wordsOf, scan, packetWords, packetsOf, scanned, cutPiece, wrongSum, unfitSum}
+use Rattle.scan.specs.Scan.{Piece, Word, Marker, Packet, wordsOf, scan, packetWords, packetsOf, scanned, cutPiece, wrongSum}
 use Rattle.scan.proofs.Remade.{words-of-scan}
 use Rattle.region.specs.Ancillary.{blankingOf, activeOf, activeRegion, ancillary, inRegions}
 use Rattle.region.specs.Region.{mended}
@@ -26,7 +26,6 @@ bothScanned s t =
       words = s .words + t .words;
       cut = s .cut || t .cut;
       wrong = s .wrong || t .wrong;
-      unfit = s .unfit || t .unfit;
     }
 
 pub packets-of-append : (ps qs : List Piece) → packetsOf (ps ++ qs) ≡ packetsOf ps ++ packetsOf qs
@@ -36,7 +35,7 @@ packets-of-append (p ∷ ps) qs = ap (λ (l : List ℕ). packetWords p ++ l) (pa
 
 scanned-of-append : (ps qs : List Piece) → scanned (ps ++ qs) ≡ bothScanned (scanned ps) (scanned qs)
 scanned-of-append ps qs =
-    rw (packets-of-append ps qs, length-append (packetsOf ps) (packetsOf qs), any-of-append cutPiece ps qs, any-of-append wrongSum ps qs, any-of-append unfitSum ps qs)
+    rw (packets-of-append ps qs, length-append (packetsOf ps) (packetsOf qs), any-of-append cutPiece ps qs, any-of-append wrongSum ps qs)
 
 packets-le : (ps : List Piece) → length (packetsOf ps) ≤ length (flatMap wordsOf ps)
 unfolding packetsOf flatMap

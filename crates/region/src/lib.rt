@@ -109,6 +109,5 @@ pub fn scan_packets(plan: Plan, words: &[u16]) -> Scanned
         words: blanking.words + active.words,
         cut: blanking.cut | active.cut,
         wrong: blanking.wrong | active.wrong,
-        unfit: blanking.unfit | active.unfit,
     }
 }

@@ -7,11 +7,10 @@ use stream::Y_BLANK;
 ghost use mathlib.Core.Path.{_≡_};
 ghost use Rattle.plan.specs.Plan.{planOf};
 ghost use Rattle.stream.specs.Words.{yBlank, cBlank};
-ghost use Rattle.row.specs.declared.Carry.the-variants.{Nothing};
-ghost use Rattle.row.specs.Row.{carryAfter};
+ghost use Rattle.row.specs.Row.{carryAfter, checkRefusal};
 ghost use Rattle.repair.specs.Repair.{withCrc, correctedStream, putRight, withSums, withCodes, wipedIf};
 ghost use Rattle.parts.specs.Parts.{unlessRefused};
-ghost use Rattle.repair.specs.Answer.{correctRefusal, corrected, correctedC, correctedFor, correctedY};
+ghost use Rattle.repair.specs.Answer.{corrected, correctedC, correctedFor, correctedY};
 
 pub struct Corrected {
     pub refusal: u8,
@@ -79,7 +78,7 @@ fn put_right(plan: Plan, known: bool, register: u32, words: &mut [u16])
     lay_crc(plan, known, register, words);
 }
 
-// Corrects a row and answers the carry that it then leaves; 4, 5, 2, 3, 8.
+// Corrects a row and answers the carry that it then leaves; 4, 5, 2, 3.
 pub fn correct(
     raster: u32,
     line: u32,
@@ -89,25 +88,21 @@ pub fn correct(
     c: &mut [u16],
 ) -> Corrected
     ensures answer { λ r. ⌜ r ≡ corrected raster line carry wiping (now (y .entry)) (now (c .entry)) ⌝ }
-    ensures luma { λ _. ⌜ now (y .exit) ≡ unlessRefused (correctRefusal raster line carry wiping (now (y .entry)) (now (c .entry))) (correctedY (planOf raster line) carry wiping (now (y .entry))) (now (y .entry)) ⌝ }
-    ensures chroma { λ _. ⌜ now (c .exit) ≡ unlessRefused (correctRefusal raster line carry wiping (now (y .entry)) (now (c .entry))) (correctedC (planOf raster line) carry wiping (now (c .entry))) (now (c .entry)) ⌝ }
+    ensures luma { λ _. ⌜ now (y .exit) ≡ unlessRefused (checkRefusal raster line carry (now (y .entry)) (now (c .entry))) (correctedY (planOf raster line) carry wiping (now (y .entry))) (now (y .entry)) ⌝ }
+    ensures chroma { λ _. ⌜ now (c .exit) ≡ unlessRefused (checkRefusal raster line carry (now (y .entry)) (now (c .entry))) (correctedC (planOf raster line) carry wiping (now (c .entry))) (now (c .entry)) ⌝ }
 {
     let refusal = row::check_refusal(raster, line, carry, y, c);
     if refusal != 0 {
-        return refused(refusal);
+        return Corrected {
+            refusal,
+            carry: Carry::Nothing,
+        };
     }
     let plan = plan::plan_of(raster, line);
-    let before = row::carried(carry);
-    if stream::unmakeable(plan, before.known, before.y) {
-        return refused(8);
-    }
-    if stream::unmakeable(plan, before.known, before.c) {
-        return refused(8);
-    }
-    correct_rows(plan, before, wiping, y, c)
+    correct_rows(plan, row::carried(carry), wiping, y, c)
 }
 
-// Corrects a row under its plan, once it is known that timing codes, line number and CRC can be made.
+// Corrects a row under its plan.
 fn correct_rows(plan: Plan, before: Before, wiping: bool, y: &mut [u16], c: &mut [u16]) -> Corrected
     ensures answer { λ r. ⌜ r ≡ correctedFor 0 (carryAfter plan (correctedStream plan wiping yBlank (before .known) (before .y) (now (y .entry))) (correctedStream plan wiping cBlank (before .known) (before .c) (now (c .entry)))) ⌝ }
     ensures luma { λ _. ⌜ now (y .exit) ≡ correctedStream plan wiping yBlank (before .known) (before .y) (now (y .entry)) ⌝ }
@@ -115,13 +110,6 @@ fn correct_rows(plan: Plan, before: Before, wiping: bool, y: &mut [u16], c: &mut
 {
     wipe(wiping, plan, Y_BLANK, y);
     wipe(wiping, plan, C_BLANK, c);
-    // No checksum is ever a reserved code, so that a row which was wiped is never refused here.
-    if region::scan_packets(plan, y).unfit {
-        return refused(8);
-    }
-    if region::scan_packets(plan, c).unfit {
-        return refused(8);
-    }
     put_right(plan, before.known, before.y, y);
     put_right(plan, before.known, before.c, c);
     let after_y = stream::register_after(plan, y);
@@ -129,14 +117,5 @@ fn correct_rows(plan: Plan, before: Before, wiping: bool, y: &mut [u16], c: &mut
     Corrected {
         refusal: 0,
         carry: Carry::Registers(after_y, after_c),
-    }
-}
-
-fn refused(refusal: u8) -> Corrected
-    ensures { λ r. ⌜ r ≡ record { refusal = refusal; carry = Nothing } ⌝ }
-{
-    Corrected {
-        refusal,
-        carry: Carry::Nothing,
     }
 }

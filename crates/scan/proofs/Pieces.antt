@@ -10,7 +10,7 @@ use lib.Dec.{eqb}
 use lib.Seq.{length-take-le, drop-drop, getD-drop, getD-take}
 use borrow.Author.Tests.{le-leb, lt-leb}
 use Rattle.bits.specs.Choice.{if}
-use Rattle.bits.specs.Words.{nineOf, reservedCode}
+use Rattle.bits.specs.Words.{nineOf}
 use Rattle.parts.specs.Parts.{same, any}
 use Rattle.parts.proofs.Comparing.{any-cons}
 use Rattle.scan.specs.declared.Here.{Here}
@@ -158,27 +158,26 @@ scanned-past r i k e = go k (drop i r) e ∙ rw drop-drop
 
 -- ---- scanned: what is told of the pieces passed, and of those that are left
 
-abbrev pub withRest : ℕ → Bool → Bool → Bool → Scanned → Scanned
-withRest words cut wrong unfit rest =
+abbrev pub withRest : ℕ → Bool → Bool → Scanned → Scanned
+withRest words cut wrong rest =
     record {
       words = words + rest .words;
       cut = cut || rest .cut;
       wrong = wrong || rest .wrong;
-      unfit = unfit || rest .unfit;
     }
 
-pub scanned-start : (ps : List Piece) → scanned ps ≡ withRest 0 false false false (scanned ps)
+pub scanned-start : (ps : List Piece) → scanned ps ≡ withRest 0 false false (scanned ps)
 scanned-start ps = rw zero-add
 
-module _ (r : List ℕ) (i : ℕ) (h : i < length r) (words : ℕ) (cut wrong unfit : Bool) where
+module _ (r : List ℕ) (i : ℕ) (h : i < length r) (words : ℕ) (cut wrong : Bool) where
   pub scanned-cut : hereOf (pieceAt (drop i r)) ≡ Cut
-      → withRest words cut wrong unfit (scanned (scan (drop i r))) ≡ withRest words true wrong unfit (scanned (scan (drop (i + 3) r)))
+      → withRest words cut wrong (scanned (scan (drop i r))) ≡ withRest words true wrong (scanned (scan (drop (i + 3) r)))
   unfolding packetsOf flatMap any
   scanned-cut e = rw (scan-turn r i Cut h e .next, or-true)
 
   pub scanned-whole : (last sum : ℕ) → hereOf (pieceAt (drop i r)) ≡ Whole (last + 1) → sum ≡ sumOf (drop 3 (take last (drop i r))) % 512
-      → withRest words cut wrong unfit (scanned (scan (drop i r)))
-      ≡ withRest (words + (last + 1)) cut (wrong || not (eqb (getD r (i + last) 0) (nineOf sum))) (unfit || reservedCode (nineOf sum))
+      → withRest words cut wrong (scanned (scan (drop i r)))
+      ≡ withRest (words + (last + 1)) cut (wrong || not (eqb (getD r (i + last) 0) (nineOf sum)))
       (scanned (scan (drop (i + (last + 1)) r)))
   unfolding packetsOf flatMap any checksumOf
   scanned-whole last sum e s =
@@ -192,7 +191,7 @@ module _ (r : List ℕ) (i : ℕ) (h : i < length r) (words : ℕ) (cut wrong un
       let long : length p ≡ n = length-take-le n (drop i r) (omega (arith, length-drop i r, t .room)) in
       rw (t .next, right, has, length-append, long) (simp (add-assoc, or-assoc))
 
-pub scanned-end : (words : ℕ) (cut wrong unfit : Bool)
-    → withRest words cut wrong unfit (scanned []) ≡ record { words = words; cut = cut; wrong = wrong; unfit = unfit }
+pub scanned-end : (words : ℕ) (cut wrong : Bool)
+    → withRest words cut wrong (scanned []) ≡ record { words = words; cut = cut; wrong = wrong }
 unfolding packetsOf flatMap any
-scanned-end words cut wrong unfit = simp or-false (rw add-zero)
+scanned-end words cut wrong = simp or-false (rw add-zero)

@@ -13,9 +13,9 @@ use Rattle.bits.proofs.Choice.{and-true, false-not-true}
 use Rattle.bits.proofs.Lists.{cons-equal}
 use Rattle.parts.specs.Parts.{same, any, endToEnd}
 use Rattle.parts.proofs.Comparing.{any-cons, any-of-map}
-use Rattle.scan.specs.Packet.{marker, marked, sizeOf, fits, summed}
-use Rattle.scan.specs.Scan.{Piece, Word, Marker, Packet, wordsOf, pieceAt, scanFrom, scan, unfitSum}
-use Rattle.scan.proofs.Packets.{fits-room, checksum-not-reserved}
+use Rattle.scan.specs.Packet.{marker, marked, sizeOf, fits}
+use Rattle.scan.specs.Scan.{Piece, Word, Marker, Packet, wordsOf, pieceAt, scanFrom, scan}
+use Rattle.scan.proofs.Packets.{fits-room}
 use Rattle.scan.proofs.Pieces.{pieceAt-cases, pieceAt-some, pieceAt-words, scan-step}
 
 -- ---- the pieces' words are the region
@@ -194,12 +194,3 @@ module _
         each : (ps : List Piece) → flatMap made ps ≡ remade ps
         each [] = refl
         each (p ∷ ps) = ap₂ _++_ (e p) (each ps)
-
--- ---- unfitSum
-
-pub unfit-never : (ps : List Piece) → any unfitSum ps ≡ false
-unfolding any
-unfit-never [] = refl
-unfit-never (Word w ∷ ps) = unfit-never ps
-unfit-never (Marker ∷ ps) = unfit-never ps
-unfit-never (Packet p ∷ ps) = rw (checksum-not-reserved (summed p)) (unfit-never ps)

@@ -5,7 +5,6 @@ use Prim.Native.Nat.{ℕ, zero, suc, _-_}
 use lib.Dec.{eqb}
 use lib.ListN.{length, getD, take}
 use Rattle.bits.specs.Choice.{if}
-use Rattle.bits.specs.Words.{reservedCode}
 use Rattle.parts.specs.Parts.{any}
 use Rattle.scan.specs.declared.Here.{Here}
 use Rattle.scan.specs.declared.Here.the-variants.{Nothing, Cut, Whole}
@@ -51,12 +50,6 @@ wrongSum (Word w) = false
 wrongSum Marker = false
 wrongSum (Packet p) = not (eqb (checksumIn p) (rightChecksum p))
 
--- "8: .. checksum .. to be made would be a reserved code"
-abbrev pub unfitSum : Piece → Bool
-unfitSum (Word w) = false
-unfitSum Marker = false
-unfitSum (Packet p) = reservedCode (rightChecksum p)
-
 -- the words of whole packets: "all whole packets .., in order, end to end"
 abbrev pub packetWords : Piece → List ℕ
 packetWords (Word w) = []
@@ -66,15 +59,13 @@ packetWords (Packet p) = p
 unfoldable pub packetsOf : List Piece → List ℕ
 packetsOf ps = flatMap packetWords ps
 
--- what is told of pieces: how many words their whole packets have, whether a packet is cut, whether a checksum is wrong,
--- whether one to be made would be a reserved code
+-- what is told of pieces: how many words their whole packets have, whether a packet is cut, whether a checksum is wrong
 abbrev pub scanned : List Piece → Scanned
 scanned ps =
     record {
       words = length (packetsOf ps);
       cut = any cutPiece ps;
       wrong = any wrongSum ps;
-      unfit = any unfitSum ps;
     }
 
 -- what is told of the piece at a place: none starts there, a cut packet, a whole one of so many words

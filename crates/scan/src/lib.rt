@@ -19,7 +19,6 @@ pub struct Scanned {
     pub words: usize,
     pub cut: bool,
     pub wrong: bool,
-    pub unfit: bool,
 }
 
 // Whether a packet's first three words stand at a place.
@@ -102,7 +101,6 @@ pub fn scan(region: &[u16]) -> Scanned
     let mut words = 0;
     let mut cut = false;
     let mut wrong = false;
-    let mut unfit = false;
     let mut i = 0;
     'scan: while i < n {
         if !marked_at(region, i) {
@@ -133,14 +131,8 @@ pub fn scan(region: &[u16]) -> Scanned
         }
         let right = bits::nine(sum);
         wrong = wrong | (region[i + last] != right);
-        unfit = unfit | bits::reserved(right);
         words += last + 1;
         i += last + 1;
     }
-    Scanned {
-        words,
-        cut,
-        wrong,
-        unfit,
-    }
+    Scanned { words, cut, wrong }
 }

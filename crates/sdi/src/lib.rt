@@ -64,7 +64,7 @@ pub use raster::Raster;
 
 // ---- ancillary packets
 
-// A packet built into an output. Refuses 3, 6, 8, 1.
+// A packet built into an output. Refuses 3, 6, 1.
 pub use packet::build as build_packet;
 
 // The first whole packet of a row with these identifiers, as a part of its channel. Refuses 4, 5, 2, 3, with an empty part.
@@ -86,10 +86,10 @@ pub use packet::Built as BuiltPacket;
 // The flags of a row, and the carry for the next. Refuses 4, 5, 2, 3.
 pub use row::check as check_row;
 
-// A row made right where it lies: checksums, timing codes and line numbers, CRC. Refuses 4, 5, 2, 3, 8.
+// A row made right where it lies: checksums, timing codes and line numbers, CRC. Refuses 4, 5, 2, 3.
 pub use repair::correct as correct_row;
 
-// A row built from active words and words for the blanking. Refuses 4, 5, 2, 3, 8, 1.
+// A row built from active words and words for the blanking. Refuses 4, 5, 2, 3, 1.
 pub use compose::build as build_row;
 
 // Types.

@@ -1,11 +1,9 @@
 -- The words of one stream of a row (a channel) outside its regions: timing codes, line number, CRC; as they should be and as they stand.
-use mathlib.Core.Bool.{Bool, _&&_, _||_}
 use mathlib.Core.List.{List, [], _∷_, _++_}
 use Prim.Native.Nat.{ℕ}
 use lib.ListN.{take}
-use Rattle.bits.specs.Words.{reservedCode}
 use Rattle.crc.specs.Crc.{crcStart, crcWords, crWords}
-use Rattle.parts.specs.Parts.{any, part}
+use Rattle.parts.specs.Parts.{part}
 use Rattle.plan.specs.declared.Plan.{Plan}
 use Rattle.region.specs.Ancillary.{activeOf}
 
@@ -54,9 +52,3 @@ coveredBy p r ws = crcWords r (headOf p ws)
 -- "The carry is each channel's CRC register after a row's active words"
 abbrev pub registerAfter : Plan → List ℕ → ℕ
 registerAfter p ws = crcWords crcStart (activeOf p ws)
-
--- "8: .. a timing code, line number, CRC .. to be made would be a reserved code"; CRC words are made where there is a carry
-unfoldable pub unmakeable : Plan → Bool → ℕ → Bool
-unmakeable p known r =
-    any reservedCode (p .codes .eav ∷ p .codes .sav ∷ p .codes .ln0 ∷ p .codes .ln1 ∷ [])
-    || (known && any reservedCode (checkWords p (crcWords r (headWords p))))

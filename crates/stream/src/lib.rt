@@ -1,4 +1,4 @@
-// One stream of a row: what is wrong with it, the register that it leaves, and whether its words can be made.
+// One stream of a row: what is wrong with it, and the register that it leaves.
 use plan::Plan;
 ghost use mathlib.Core.Path.{_≡_};
 ghost use mathlib.Core.Bool.{_&&_};
@@ -7,7 +7,7 @@ ghost use lib.ListN.{take};
 ghost use Rattle.bits.specs.Words.{reservedCode};
 ghost use Rattle.crc.specs.Crc.{crcWords};
 ghost use Rattle.parts.specs.Parts.{any, part};
-ghost use Rattle.stream.specs.Words.{checkWords, checksOf, coveredBy, headWords, registerAfter, trs, unmakeable};
+ghost use Rattle.stream.specs.Words.{checkWords, checksOf, coveredBy, headWords, registerAfter, trs};
 ghost use Rattle.stream.specs.Faults.{differ, faultsOf, pictureOf};
 
 // Blanking words.
@@ -109,19 +109,4 @@ pub fn head_register(plan: Plan, register: u32) -> u32
         after,
         parts::part(&[plan.codes.ln0, plan.codes.ln1], 0, plan.places.lines),
     )
-}
-
-// Whether a timing code, line number or CRC word to be made would be a reserved code.
-pub fn unmakeable(plan: Plan, known: bool, register: u32) -> bool
-    ensures { λ r. ⌜ r ≡ unmakeable plan known register ⌝ }
-{
-    let codes = plan.codes;
-    if parts::any_reserved(&[codes.eav, codes.sav, codes.ln0, codes.ln1]) {
-        return true;
-    }
-    if !known {
-        return false;
-    }
-    let made = crc::words_of(head_register(plan, register));
-    parts::any_reserved(parts::part(&[made.cr0, made.cr1], 0, plan.places.checks))
 }

@@ -1,5 +1,5 @@
 -- Packets that are built, found or extracted.
-use mathlib.Core.Path.{_≡_, refl, sym, ap, _∙_}
+use mathlib.Core.Path.{_≡_, refl, ap, _∙_}
 use mathlib.Core.List.{List}
 use Prim.Native.Nat.{ℕ, _+_, _≤_}
 use native.Mathlib.Omega.{arith}
@@ -12,35 +12,26 @@ use Rattle.plan.specs.Refusal.{rowRefusal}
 use Rattle.packet.specs.declared.Built.{Built}
 use Rattle.packet.specs.Build.{buildable, buildRefusal, built, builtFor, packetOf}
 use Rattle.packet.proofs.Packets.{length-packet}
-use Rattle.packet.proofs.Refusals.{made-fit}
 use Rattle.finding.specs.declared.Channel.{Channel}
 use Rattle.finding.specs.declared.Extracted.{Extracted}
 use Rattle.finding.specs.Find.{findOf}
 use Rattle.finding.specs.Extract.{channelOf, extractRefusal, extracted, extractedFor, packetsIn}
 use Rattle.law_refusal.specs.Answers.{Refused}
 use Rattle.law_refusal.specs.Rows.{rowsOk, wordsOk}
-use Rattle.law_refusal.proofs.Rows.{Clauses, clauses, extract-number, not-eight}
+use Rattle.law_refusal.proofs.Rows.{Clauses, clauses, extract-number}
 use Rattle.law_refusal.proofs.Answers.{answered, beyond, kept}
 
 -- ---- built
 
 module _ (did sdid : ℕ) (user out : List ℕ) where
   abbrev unbuilt : ℕ
-  unbuilt = buildRefusal did sdid user (length out)
+  unbuilt = buildRefusal did user (length out)
 
-  -- no word that is made is a reserved code
   packet-number : unbuilt ≡ if (words10 user) (if (buildable did user) (if (leb (length user + 7) (length out)) 0 1) 6) 3
   unfolding buildRefusal
-  packet-number = rw (made-fit did sdid user)
+  packet-number = refl
 
-  packet-not-eight : unbuilt ≡ 8 → ⊥
-  packet-not-eight z =
-      not-eight (words10 user) _ 3
-      (not-eight (buildable did user) _ 6 (not-eight (leb (length user + 7) (length out)) 0 1 (λ k. omega arith) (λ k. omega arith)) (λ k. omega arith))
-      (λ k. omega arith)
-      (sym packet-number ∙ z)
-
-  module _ {r : Built} {exit : List ℕ} (e : r ≡ built did sdid user (length out)) (b : exit ≡ laidUnless unbuilt (packetOf did sdid user) out) where
+  module _ {r : Built} {exit : List ℕ} (e : r ≡ built did user (length out)) (b : exit ≡ laidUnless unbuilt (packetOf did sdid user) out) where
     packet-answered : (r .refusal ≡ unbuilt) × (Refused (r .refusal) → r .words ≡ 0)
     unfolding built
     packet-answered =
@@ -53,14 +44,13 @@ module _ (did sdid : ℕ) (user out : List ℕ) where
 
     pub packet-told :
         (r .refusal ≡ if (words10 user) (if (buildable did user) (if (leb (length user + 7) (length out)) 0 1) 6) 3)
-        × (r .refusal ≡ 8 → ⊥)
         × (Refused (r .refusal) → r .words ≡ 0)
         × (Refused (r .refusal) → exit ≡ out)
         × (drop (r .words) exit ≡ drop (r .words) out)
     packet-told =
         let a = packet-answered in
         let p = packetOf did sdid user in
-        (a .0 ∙ packet-number, λ z. packet-not-eight (sym (a .0) ∙ z), a .1, kept unbuilt _ out (a .0) b, beyond unbuilt (r .words) p out b packet-filled)
+        (a .0 ∙ packet-number, a .1, kept unbuilt _ out (a .0) b, beyond unbuilt (r .words) p out b packet-filled)
 
 -- ---- found
 

@@ -22,14 +22,14 @@ use Rattle.row.specs.declared.Checked.{Checked}
 use Rattle.row.specs.Before.{carried, carryOk}
 use Rattle.row.specs.Row.{carryAfter, checkRefusal, checked, checkedBy, judged}
 use Rattle.repair.specs.declared.Corrected.{Corrected}
-use Rattle.repair.specs.Answer.{correctRefusal, corrected, correctedC, correctedFor, correctedY}
+use Rattle.repair.specs.Answer.{corrected, correctedC, correctedFor, correctedY}
 use Rattle.compose.specs.declared.Built.{Built}
 use Rattle.compose.specs.Compose.{buildRefusal, builtFor, cStream, lengthsOk, roomOk, streamOf, yStream}
 use Rattle.compose.proofs.Refusal.{buildRefusal-ok}
 use Rattle.law_row.proofs.BuiltParts.{length-streamOf}
 use Rattle.law_refusal.specs.Answers.{Refused}
 use Rattle.law_refusal.specs.Rows.{partsOk, rowsOk, wordsOk}
-use Rattle.law_refusal.proofs.Rows.{Clauses, build-number, check-number, clauses, correct-number, line-number, row-number}
+use Rattle.law_refusal.proofs.Rows.{Clauses, build-number, check-number, clauses, line-number, row-number}
 use Rattle.law_refusal.proofs.Answers.{answered, beyond, kept}
 
 -- ---- planned
@@ -71,7 +71,7 @@ module _ (code line : ℕ) (carry : Carry) (y c : List ℕ) {r : Checked} (e : r
 
 module _ (code line : ℕ) (carry : Carry) (wipe : Bool) (y c : List ℕ) where
   abbrev uncorrected : ℕ
-  uncorrected = correctRefusal code line carry wipe y c
+  uncorrected = checkRefusal code line carry y c
 
   abbrev inY : List ℕ
   inY = correctedY (planOf code line) carry wipe y
@@ -100,7 +100,7 @@ module _ (code line : ℕ) (carry : Carry) (wipe : Bool) (y c : List ℕ) where
           × (Refused (r .refusal) → c-exit ≡ c)
       correct-told =
           let a = correct-answered in (
-            clauses code line _ _ _ (a .0 ∙ correct-number code line y c carry wipe),
+            clauses code line _ _ _ (a .0 ∙ check-number code line y c carry),
             a .1,
             kept uncorrected inY y (a .0) u,
             kept uncorrected inC c (a .0) v,

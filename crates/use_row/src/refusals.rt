@@ -1,6 +1,5 @@
 // The refusals of packets and rows, one client a function: whatever it is given, each number is answered where its condition holds and
-// none of those before it in the order 4, 5, 2, 3, 6, 8, 1, and 0 where none holds. A number 8 never comes: no word that is made is a
-// reserved code.
+// none of those before it in the order 4, 5, 2, 3, 6, 1, and 0 where none holds.
 use finding::Channel;
 use finding::Extracted;
 use plan::Plan;
@@ -99,7 +98,6 @@ pub fn check(raster: u32, line: u32, carry: Carry, y: &[u16], c: &[u16]) -> Chec
 pub fn build_packet(did: u8, sdid: u8, user: &[u16], out: &mut [u16]) -> packet::Built
     ensures three { λ r. ⌜ (words10 (now (user .entry)) ≡ false → r .refusal ≡ 3) ⌝ }
     ensures six { λ r. ⌜ (words10 (now (user .entry)) ≡ true → buildable did (now (user .entry)) ≡ false → r .refusal ≡ 6) ⌝ }
-    ensures eight { λ r. ⌜ (r .refusal ≡ 8 → ⊥) ⌝ }
     ensures one { λ r. ⌜ (words10 (now (user .entry)) ≡ true → buildable did (now (user .entry)) ≡ true → leb (length (now (user .entry)) + 7) (length (now (out .entry))) ≡ false → r .refusal ≡ 1) ⌝ }
     ensures done { λ r. ⌜ (words10 (now (user .entry)) ≡ true → buildable did (now (user .entry)) ≡ true → leb (length (now (user .entry)) + 7) (length (now (out .entry))) ≡ true → r .refusal ≡ 0) ⌝ }
     ensures zeros { λ r. ⌜ (Refused (r .refusal) → r .words ≡ 0) ⌝ }
@@ -144,7 +142,6 @@ pub fn correct(
     ensures five { λ r. ⌜ (rasterOk raster ≡ true → lineOk raster line ≡ false → r .refusal ≡ 5) ⌝ }
     ensures two { λ r. ⌜ (Listed raster line → rowsOk raster (now (y .entry)) (now (c .entry)) ≡ false → r .refusal ≡ 2) ⌝ }
     ensures three { λ r. ⌜ (Sized raster line (rowsOk raster (now (y .entry)) (now (c .entry))) → (wordsOk (now (y .entry)) (now (c .entry)) && carryOk carry) ≡ false → r .refusal ≡ 3) ⌝ }
-    ensures eight { λ r. ⌜ (r .refusal ≡ 8 → ⊥) ⌝ }
     ensures done { λ r. ⌜ (Sound raster line (rowsOk raster (now (y .entry)) (now (c .entry))) (wordsOk (now (y .entry)) (now (c .entry)) && carryOk carry) → r .refusal ≡ 0) ⌝ }
     ensures zeros { λ r. ⌜ (Refused (r .refusal) → r .carry ≡ Nothing) ⌝ }
     ensures ykept { λ r. ⌜ (Refused (r .refusal) → now (y .exit) ≡ now (y .entry)) ⌝ }
@@ -169,7 +166,6 @@ pub fn build_row(
     ensures five { λ r. ⌜ (rasterOk raster ≡ true → lineOk raster line ≡ false → r .refusal ≡ 5) ⌝ }
     ensures two { λ r. ⌜ (Listed raster line → partsOk (planOf raster line) (now (yactive .entry)) (now (cactive .entry)) (now (ylaid .entry)) (now (claid .entry)) ≡ false → r .refusal ≡ 2) ⌝ }
     ensures three { λ r. ⌜ (Sized raster line (partsOk (planOf raster line) (now (yactive .entry)) (now (cactive .entry)) (now (ylaid .entry)) (now (claid .entry))) → (wordsOk (now (yactive .entry)) (now (ylaid .entry)) && (wordsOk (now (cactive .entry)) (now (claid .entry)) && carryOk carry)) ≡ false → r .refusal ≡ 3) ⌝ }
-    ensures eight { λ r. ⌜ (r .refusal ≡ 8 → ⊥) ⌝ }
     ensures one { λ r. ⌜ (Sound raster line (partsOk (planOf raster line) (now (yactive .entry)) (now (cactive .entry)) (now (ylaid .entry)) (now (claid .entry))) (wordsOk (now (yactive .entry)) (now (ylaid .entry)) && (wordsOk (now (cactive .entry)) (now (claid .entry)) && carryOk carry)) → roomOk (planOf raster line) (length (now (y .entry))) (length (now (c .entry))) ≡ false → r .refusal ≡ 1) ⌝ }
     ensures done { λ r. ⌜ (Sound raster line (partsOk (planOf raster line) (now (yactive .entry)) (now (cactive .entry)) (now (ylaid .entry)) (now (claid .entry))) (wordsOk (now (yactive .entry)) (now (ylaid .entry)) && (wordsOk (now (cactive .entry)) (now (claid .entry)) && carryOk carry)) → roomOk (planOf raster line) (length (now (y .entry))) (length (now (c .entry))) ≡ true → r .refusal ≡ 0) ⌝ }
     ensures zeros { λ r. ⌜ (Refused (r .refusal) → r .carry ≡ Nothing) ⌝ }

@@ -16,8 +16,7 @@ ghost use Rattle.plan.specs.Plan.{planOf};
 ghost use Rattle.plan.specs.Refusal.{orRefusal, rowRefusal};
 ghost use Rattle.packet.specs.Build.{buildRefusal as packetRefusal};
 ghost use Rattle.stream.specs.Words.{cBlank, yBlank};
-ghost use Rattle.row.specs.Row.{flagsOf};
-ghost use Rattle.repair.specs.Answer.{correctRefusal};
+ghost use Rattle.row.specs.Row.{checkRefusal, flagsOf};
 ghost use Rattle.repair.specs.Repair.{wipedIf};
 ghost use Rattle.compose.specs.Compose.{buildRefusal};
 ghost use Rattle.law_row.specs.Laid.{LawfulLine, PlaceAfter};
@@ -44,7 +43,7 @@ pub fn built_and_found(
     y: &mut [u16],
     c: &[u16],
 ) -> Sought
-    ensures number { λ r. ⌜ r .refusal ≡ orRefusal (rowRefusal raster line (now (y .entry)) (now (c .entry))) (packetRefusal did sdid (now (user .entry)) (length (now (packet .entry)))) ⌝ }
+    ensures number { λ r. ⌜ r .refusal ≡ orRefusal (rowRefusal raster line (now (y .entry)) (now (c .entry))) (packetRefusal did (now (user .entry)) (length (now (packet .entry)))) ⌝ }
     ensures found { λ r. ⌜ (r .refusal ≡ 0 → (packets : List (List ℕ)) → PlaceAfter raster line did sdid (now (user .entry)) (now (y .entry)) at packets → r .found ≡ true) ⌝ }
     ensures refused { λ r. ⌜ ((r .refusal ≡ 0 → ⊥) → (now (packet .exit) ≡ now (packet .entry)) × (now (y .exit) ≡ now (y .entry))) ⌝ }
 {
@@ -127,7 +126,7 @@ pub fn corrected_and_checked(
     y: &mut [u16],
     c: &mut [u16],
 ) -> Recheck
-    ensures number { λ r. ⌜ r .corrected .refusal ≡ correctRefusal raster line carry wiping (now (y .entry)) (now (c .entry)) ⌝ }
+    ensures number { λ r. ⌜ r .corrected .refusal ≡ checkRefusal raster line carry (now (y .entry)) (now (c .entry)) ⌝ }
     ensures clear { λ r. ⌜ (r .corrected .refusal ≡ 0 → (r .after .refusal ≡ 0) × (r .after .flags % 128 ≡ 0) × (r .after .carry ≡ r .corrected .carry)) ⌝ }
     ensures kept { λ r. ⌜ (r .corrected .refusal ≡ 0 → wiping ≡ false → r .after .flags / 128 ≡ r .before .flags / 128) ⌝ }
     ensures wiped { λ r. ⌜ (r .corrected .refusal ≡ 0 → r .after .flags / 128 ≡ flagsOf (planOf raster line) carry (wipedIf wiping (planOf raster line) yBlank (now (y .entry))) (wipedIf wiping (planOf raster line) cBlank (now (c .entry))) / 128) ⌝ }

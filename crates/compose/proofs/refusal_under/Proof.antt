@@ -5,17 +5,17 @@ use borrow.Author.Needs.{needs}
 use Rattle.bits.specs.Choice.{if}
 use Rattle.bits.specs.Words.{words10}
 use Rattle.row.specs.Before.{carryOk}
-use Rattle.compose.specs.Compose.{madeRefusal, refusalUnder}
+use Rattle.compose.specs.Compose.{refusalUnder, roomOk}
 use Rattle.compose.proofs.Refusal.{refusalUnder-words}
 use Rattle.compose.proofs.refusal_under.Statement.{statement}
 use Rattle.compose.proofs.refusal_under.Tie as tie
 
--- past the first two tests only words, carry and what is made are left
+-- past the first two tests only words, carry and room are left
 words : (c : tie.Else2)
     → let at = c .before .before .before .before .before .before .before .before .args in
     refusalUnder (at .plan) (at .carry) (at .yactive .now) (at .cactive .now) (at .ylaid .now) (at .claid .now) (at .yroom) (at .croom)
     ≡ if ((words10 (at .yactive .now) && words10 (at .ylaid .now)) && ((words10 (at .cactive .now) && words10 (at .claid .now)) && carryOk (at .carry)))
-    (madeRefusal (at .plan) (at .carry) (at .yroom) (at .croom)) 3
+    (if (roomOk (at .plan) (at .yroom) (at .croom)) 0 1) 3
 words c =
     let of-c = c .before .lengths-ok2 in
     let y = c .before .before .before .lengths-ok in
@@ -26,7 +26,7 @@ words c =
 carry : (c : tie.After-carry-ok)
     → let at = c .before .before .before .before .before .before .before .before .before .before .before .before .before .args in
     refusalUnder (at .plan) (at .carry) (at .yactive .now) (at .cactive .now) (at .ylaid .now) (at .claid .now) (at .yroom) (at .croom)
-    ≡ if (c .carry-ok .result) (madeRefusal (at .plan) (at .carry) (at .yroom) (at .croom)) 3
+    ≡ if (c .carry-ok .result) (if (roomOk (at .plan) (at .yroom) (at .croom)) 0 1) 3
 carry c =
     let of-c = c .before .before .words-ok2 in
     let y = c .before .before .before .before .words-ok in
@@ -71,13 +71,20 @@ carry-ok-requires c κs = search needs
 returns-5 : tie.Need-returns-5
 returns-5 c = rw (carry (c .before), not-true (c .before .carry-ok .result) (c .if5 .taken))
 
-made-refusal-requires : tie.Need-made-refusal-requires
-made-refusal-requires c κs = search needs
+room-ok-requires : tie.Need-room-ok-requires
+room-ok-requires c κs = search needs
 
 returns-6 : tie.Need-returns-6
 returns-6 c =
-    let ok = c .before .before in
-    rw (carry ok, not-false (ok .carry-ok .result) (c .before .if5 .left), c .made-refusal .ensures)
+    let ok = c .before .before .before in
+    let room = c .before .room-ok in
+    rw (carry ok, not-false (ok .carry-ok .result) (c .before .before .if5 .left), ← room .ensures, not-true (room .result) (c .if6 .taken))
+
+returns-7 : tie.Need-returns-7
+returns-7 c =
+    let ok = c .before .before .before in
+    let room = c .before .room-ok in
+    rw (carry ok, not-false (ok .carry-ok .result) (c .before .before .if5 .left), ← room .ensures, not-false (room .result) (c .if6 .left))
 
 pub refusal-under-spec : {M : Type 1} → statement M
 refusal-under-spec =
@@ -93,5 +100,6 @@ refusal-under-spec =
     returns-4
     carry-ok-requires
     returns-5
-    made-refusal-requires
-    returns-6)
+    room-ok-requires
+    returns-6
+    returns-7)

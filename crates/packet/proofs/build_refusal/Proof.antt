@@ -4,7 +4,7 @@ use borrow.Author.Needs.{needs}
 use borrow.Author.Tests.{le-leb, lt-leb, eq-eqb, ne-eqb, not-true, not-false}
 use Rattle.bits.specs.Words.{words10}
 use Rattle.packet.specs.Build.{buildRefusal}
-use Rattle.packet.proofs.Refusals.{Lawful, refusal-of-lawful, refusal-of-short, refusal-of-room}
+use Rattle.packet.proofs.Refusals.{Lawful, refusal-of-short, refusal-of-room}
 use Rattle.packet.proofs.build_refusal.Statement.{statement}
 use Rattle.packet.proofs.build_refusal.Tie as tie
 
@@ -49,28 +49,14 @@ returns-4 c =
       sym (c .before .any-reserved .ensures) ∙ c .if4 .taken,
     )
 
-made-words-requires : tie.Need-made-words-requires
-made-words-requires c κs = search needs
-
-slice-aggregate-any-reserved : tie.Need-slice-aggregate-any-reserved
-slice-aggregate-any-reserved c = search needs
-
-any-reserved-requires-2 : tie.Need-any-reserved-requires-2
-any-reserved-requires-2 c κs = search needs
+add-if5 : tie.Need-add-if5
+add-if5 c = search needs
 
 returns-5 : tie.Need-returns-5
-returns-5 c =
-    let made = rw (c .before .before .before .made-words .ensures) at (c .before .any-reserved2 .ensures) in
-    rw (refusal-of-lawful _ _ _ _ (lawful (c .before .before .before .before)), sym made ∙ c .if5 .taken)
-
-add-if6 : tie.Need-add-if6
-add-if6 c = search needs
+returns-5 c = sym (refusal-of-short _ _ _ (lawful (c .before)) (search needs))
 
 returns-6 : tie.Need-returns-6
-returns-6 c = sym (refusal-of-short _ _ _ _ (lawful (c .before .before .before .before .before)) (search needs))
-
-returns-7 : tie.Need-returns-7
-returns-7 c = sym (refusal-of-room _ _ _ _ (lawful (c .before .before .before .before .before)) (search needs))
+returns-6 c = sym (refusal-of-room _ _ _ (lawful (c .before)) (search needs))
 
 pub build-refusal-spec : {M : Type 1} → statement M
 build-refusal-spec =
@@ -82,10 +68,6 @@ build-refusal-spec =
     returns-3
     any-reserved-requires
     returns-4
-    made-words-requires
-    slice-aggregate-any-reserved
-    any-reserved-requires-2
+    add-if5
     returns-5
-    add-if6
-    returns-6
-    returns-7)
+    returns-6)

@@ -32,7 +32,7 @@ add-t7 c =
 
 returns : tie.Need-returns
 returns c =
-    let second = c .before .before .before .before .before .before .before .before in
+    let second = c .before .before .before .before .before .before in
     let active = second .before in
     let first = active .before in
     let blanking = first .before in

@@ -14,21 +14,21 @@ use Rattle.scan.proofs.scan.Statement.{statement}
 use Rattle.scan.proofs.scan.Tie as tie
 
 abbrev Inv-loop : tie.InvT-loop
-Inv-loop region n words cut₀ wrong unfit i₀ last sum₀ j₀ cut i sum j =
+Inv-loop region n words cut₀ wrong i₀ last sum₀ j₀ cut i sum j =
     (i ≡ i₀)
     × (cut ≡ cut₀)
     × (sum < 512)
     × ((sum + sumOf (drop j (take last (drop i₀ region)))) % 512 ≡ sumOf (drop 3 (take last (drop i₀ region))) % 512)
 
 abbrev μ-loop : tie.MeasureT-loop
-μ-loop region n words cut₀ wrong unfit i₀ last sum₀ j₀ cut i sum j = last - j
+μ-loop region n words cut₀ wrong i₀ last sum₀ j₀ cut i sum j = last - j
 
 abbrev Inv-scan : tie.InvT-scan
-Inv-scan region n words₀ cut₀ wrong₀ unfit₀ i₀ words cut wrong unfit i =
-    (words ≤ i) × (i ≤ n) × (scanned (scan region) ≡ withRest words cut wrong unfit (scanned (scan (drop i region))))
+Inv-scan region n words₀ cut₀ wrong₀ i₀ words cut wrong i =
+    (words ≤ i) × (i ≤ n) × (scanned (scan region) ≡ withRest words cut wrong (scanned (scan (drop i region))))
 
 abbrev μ-scan : tie.MeasureT-scan
-μ-scan region n words₀ cut₀ wrong₀ unfit₀ i₀ words cut wrong unfit i = n - i
+μ-scan region n words₀ cut₀ wrong₀ i₀ words cut wrong i = n - i
 
 scan-holds : tie.Need-scan-holds Inv-loop μ-loop Inv-scan μ-scan
 scan-holds c = (search needs, search needs, scanned-start _)
@@ -47,7 +47,7 @@ scan-again c =
     let s = c .before .before .before .before .scan in
     let nothing = hereOf-nothing _ (s .i) (sym (c .before .before .marked-at .ensures) ∙ not-true _ (c .before .if1 .taken)) in
     let rest = scanned-nothing _ (s .i) (c .before .before .before .scan-test .taken) nothing ∙ c .onward .ensures .1 in
-    (search needs, search needs, s .inv .2 ∙ ap (withRest (s .words) (s .cut) (s .wrong) (s .unfit)) rest)
+    (search needs, search needs, s .inv .2 ∙ ap (withRest (s .words) (s .cut) (s .wrong)) rest)
 
 sub-if2 : tie.Need-sub-if2 Inv-loop μ-loop Inv-scan μ-scan
 sub-if2 c = search needs
@@ -63,7 +63,7 @@ scan-again-2 c =
     let s = c .before .before .before .before .scan in
     let r = c .before .before .before .before .before .before .args .region .now in
     let marked = sym (c .before .before .marked-at .ensures) ∙ not-false _ (c .before .if1 .left) in
-    (search needs, omega (arith, marked-room r (s .i) marked), s .inv .2 ∙ scanned-cut r (s .i) (c .before .before .before .scan-test .taken) (s .words) (s .cut) (s .wrong) (s .unfit) (hereOf-cut r (s .i) marked (omega arith)))
+    (search needs, omega (arith, marked-room r (s .i) marked), s .inv .2 ∙ scanned-cut r (s .i) (c .before .before .before .scan-test .taken) (s .words) (s .cut) (s .wrong) (hereOf-cut r (s .i) marked (omega arith)))
 
 add-last : tie.Need-add-last Inv-loop μ-loop Inv-scan μ-scan
 add-last c = search needs
@@ -98,7 +98,7 @@ scan-again-3 c =
     let r = c .before .before .before .before .before .before .before .before .before .before .args .region .now in
     let marked = sym (c .before .before .before .before .before .before .marked-at .ensures) ∙ not-false _ (c .before .before .before .before .before .if1 .left) in
     let w = c .before .before .loop .inv in
-    (omega arith, omega arith, s .inv .2 ∙ scanned-cut r (s .i) (c .before .before .before .before .before .before .before .scan-test .taken) (s .words) (s .cut) (s .wrong) (s .unfit) (hereOf-cut r (s .i) marked (omega arith)) ∙ rw (w .0))
+    (omega arith, omega arith, s .inv .2 ∙ scanned-cut r (s .i) (c .before .before .before .before .before .before .before .scan-test .taken) (s .words) (s .cut) (s .wrong) (hereOf-cut r (s .i) marked (omega arith)) ∙ rw (w .0))
 
 add-sum : tie.Need-add-sum Inv-loop μ-loop Inv-scan μ-scan
 add-sum c = search needs
@@ -143,7 +143,7 @@ scan-again-4 c =
     let r = c .before .before .before .before .before .before .before .before .before .before .args .region .now in
     let marked = sym (c .before .before .before .before .before .before .marked-at .ensures) ∙ not-false _ (c .before .before .before .before .before .if1 .left) in
     let w = c .before .before .loop .inv in
-    (omega arith, omega arith, s .inv .2 ∙ scanned-cut r (s .i) (c .before .before .before .before .before .before .before .scan-test .taken) (s .words) (s .cut) (s .wrong) (s .unfit) (hereOf-cut r (s .i) marked (omega arith)) ∙ rw (w .0))
+    (omega arith, omega arith, s .inv .2 ∙ scanned-cut r (s .i) (c .before .before .before .before .before .before .before .scan-test .taken) (s .words) (s .cut) (s .wrong) (hereOf-cut r (s .i) marked (omega arith)) ∙ rw (w .0))
 
 nine-requires : tie.Need-nine-requires Inv-loop μ-loop Inv-scan μ-scan
 nine-requires c κs = search needs
@@ -156,9 +156,6 @@ mul-wrong c = search needs
 
 shared-slice-read-wrong : tie.Need-shared-slice-read-wrong Inv-loop μ-loop Inv-scan μ-scan
 shared-slice-read-wrong c = search needs
-
-reserved-requires : tie.Need-reserved-requires Inv-loop μ-loop Inv-scan μ-scan
-reserved-requires c κs = search needs
 
 add-words : tie.Need-add-words Inv-loop μ-loop Inv-scan μ-scan
 add-words c = search needs
@@ -177,27 +174,27 @@ scan-less-5 c = search needs
 
 scan-again-5 : tie.Need-scan-again-5 Inv-loop μ-loop Inv-scan μ-scan
 scan-again-5 c =
-    let s = c .before .before .before .before .before .before .before .before .before .before .before .scan in
-    let r = c .before .before .before .before .before .before .before .before .before .before .before .before .before .args .region .now in
-    let marked = sym (c .before .before .before .before .before .before .before .before .before .marked-at .ensures) ∙ not-false _ (c .before .before .before .before .before .before .before .before .if1 .left) in
+    let s = c .before .before .before .before .before .before .before .before .before .before .scan in
+    let r = c .before .before .before .before .before .before .before .before .before .before .before .before .args .region .now in
+    let marked = sym (c .before .before .before .before .before .before .before .before .marked-at .ensures) ∙ not-false _ (c .before .before .before .before .before .before .before .if1 .left) in
     let i = s .i in
-    let w = c .before .before .before .before .before .loop in
+    let w = c .before .before .before .before .loop in
     let last : ℕ = getD r (i + 5) 0 % 256 + 6 in
     let size : getD r (i + 5) 0 % 256 + 7 ≡ last + 1 = omega arith in
-    let whole : hereOf (pieceAt (drop i r)) ≡ Whole (last + 1) = hereOf-whole r i marked (omega (arith, c .before .before .before .if4 .left)) ∙ ap Whole size in
-    let done : length (take last (drop i r)) ≤ w .j = simp length-take (omega (arith, c .before .before .before .before .loop-test .left)) in
+    let whole : hereOf (pieceAt (drop i r)) ≡ Whole (last + 1) = hereOf-whole r i marked (omega (arith, c .before .before .if4 .left)) ∙ ap Whole size in
+    let done : length (take last (drop i r)) ≤ w .j = simp length-take (omega (arith, c .before .before .before .loop-test .left)) in
     let sum = sym (mod-eq-of-lt (w .inv .2)) ∙ sym (sum-end (w .sum) (w .j) (take last (drop i r)) done) ∙ w .inv .3 in (
       omega arith,
       omega arith,
       s .inv .2
-          ∙ scanned-whole r i (c .before .before .before .before .before .before .before .before .before .before .scan-test .taken) (s .words) (s .cut) (s .wrong) (s .unfit) last (w .sum) whole sum
-          ∙ rw (c .reserved .ensures, c .before .before .nine .ensures, w .inv .0, w .inv .1),
+          ∙ scanned-whole r i (c .before .before .before .before .before .before .before .before .before .scan-test .taken) (s .words) (s .cut) (s .wrong) last (w .sum) whole sum
+          ∙ rw (c .before .nine .ensures, w .inv .0, w .inv .1),
     )
 
 returns : tie.Need-returns Inv-loop μ-loop Inv-scan μ-scan
 returns c =
     let s = c .before .scan in
-    sym (s .inv .2 ∙ rw (scan-end (s .i) (c .before .before .before .args .region .now) (c .scan-test .left)) (scanned-end (s .words) (s .cut) (s .wrong) (s .unfit)))
+    sym (s .inv .2 ∙ rw (scan-end (s .i) (c .before .before .before .args .region .now) (c .scan-test .left)) (scanned-end (s .words) (s .cut) (s .wrong)))
 
 pub scan-spec : {M : Type 1} → statement M
 scan-spec =
@@ -241,7 +238,6 @@ scan-spec =
     add-wrong
     mul-wrong
     shared-slice-read-wrong
-    reserved-requires
     add-words
     add-words-2
     add-i-4

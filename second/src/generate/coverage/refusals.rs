@@ -9,7 +9,7 @@ use crate::session::Numbers;
 use crate::words::{all_words, any_reserved};
 use std::collections::BTreeSet;
 
-/// Each function's refusals, in the order: "7, 9, 4, 5, 2, 3, 6, 8, 1".
+/// Each function's refusals, in the order: "7, 9, 4, 5, 2, 3, 6, 8, 1", of which "8 is given no more".
 const REFUSALS: [(&[u32], &[u32]); 14] = [
     (&[RASTER_ROW], &[4]),
     (&[V_AND_F], &[4, 5]),

@@ -15,7 +15,7 @@ returns c =
     let at = c .before .before .before .before .before .before .args in
     let t = packet-told (at .did) (at .sdid) (at .user .now) (at .out .now) (call .0) (call .1) in
     let e = t .0 in
-    (λ w. rw (e, w), (λ w b. rw (e, w, b), (t .1, (λ w b s. rw (e, w, b, s), (λ w b s. rw (e, w, b, s), (t .2, (t .3, t .4)))))))
+    (λ w. rw (e, w), (λ w b. rw (e, w, b), (λ w b s. rw (e, w, b, s), (λ w b s. rw (e, w, b, s), (t .1, (t .2, t .3))))))
 
 pub build-packet-spec : {M : Type 1} → statement M
 build-packet-spec = tie.close (tie.spec build-requires same-length returns)

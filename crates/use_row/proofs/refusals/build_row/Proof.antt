@@ -19,7 +19,7 @@ returns c =
     let t = build-told (at .raster) (at .line) (at .carry) (at .yactive .now) (at .cactive .now) (at .ylaid .now) (at .claid .now) (at .y .now) (at .c .now)
     (call .0) (call .1 .0) (call .1 .1) in
     let q = t .0 in
-    (q .four, (q .five, (q .two, (q .three, (q .eight, (q .one, (q .done, (t .1, (t .2, (t .3, (t .4, t .5)))))))))))
+    (q .four, (q .five, (q .two, (q .three, (q .one, (q .done, (t .1, (t .2, (t .3, (t .4, t .5))))))))))
 
 pub build-row-spec : {M : Type 1} → statement M
 build-row-spec = tie.close (tie.spec build-requires same-length same-length-2 returns)

@@ -19,7 +19,7 @@ returns c =
     let at = c .before .before .before .before .before .before .before .before .before .args in
     let t = correct-told (at .raster) (at .line) (at .carry) (at .wiping) (at .y .now) (at .c .now) (call .0) (call .1 .0) (call .1 .1) in
     let q = t .0 in
-    (q .four, (q .five, (q .two, (q .three, (q .eight, (λ s. q .done s refl, (t .1, (t .2, t .3))))))))
+    (q .four, (q .five, (q .two, (q .three, (λ s. q .done s refl, (t .1, (t .2, t .3)))))))
 
 pub correct-spec : {M : Type 1} → statement M
 correct-spec = tie.close (tie.spec correct-requires same-length same-length-2 returns)

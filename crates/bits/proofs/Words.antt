@@ -130,7 +130,7 @@ inverse-not-reserved w h e =
 
 -- ---- nineOf: inverse, so that range and reserved codes follow
 
-nine-inverse : (n : ℕ) → (nineOf n ≤ 0x3ff) × (odd (nineOf n / 512) ≡ not (odd (nineOf n / 256)))
+pub nine-inverse : (n : ℕ) → (nineOf n ≤ 0x3ff) × (odd (nineOf n / 512) ≡ not (odd (nineOf n / 256)))
 unfolding nineOf odd
 nine-inverse n = go (odd (n / 256)) (digit-odd (n / 256))
   where

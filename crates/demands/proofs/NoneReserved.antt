@@ -2,16 +2,15 @@
 use mathlib.Core.Path.{refl, sym, ap, _∙_}
 use mathlib.Core.Bool.{true}
 use mathlib.Core.List.{List}
-use Prim.Native.Nat.{ℕ}
+use Prim.Native.Nat.{ℕ, _+_, _*_, _/_, _%_}
 use lib.ListN.{length, drop}
+use Rattle.bits.specs.Bits.{digit, bits, parity}
 use Rattle.bits.specs.Words.{reservedCode}
-use Rattle.bits.proofs.Words.{inverse-not-reserved}
+use Rattle.bits.proofs.Words.{inverse-not-reserved, nine-inverse}
 use Rattle.parts.specs.Parts.{any}
-use Rattle.crc.proofs.Words.{cr-not-reserved}
 use Rattle.timing.proofs.Codes.{xyz-not-reserved}
-use Rattle.timing.proofs.Line.{line-not-reserved}
-use Rattle.scan.proofs.Packets.{checksum-not-reserved}
-use Rattle.packet.proofs.Words.{header-not-reserved}
+use Rattle.scan.specs.Packet.{sumOf, checksumOf}
+use Rattle.packet.specs.Build.{headerWord}
 use Rattle.packet.proofs.Refusals.{packet-free}
 use Rattle.plan.specs.Plan.{planOf}
 use Rattle.law_row.specs.MadeWords.{madeWords}
@@ -21,15 +20,15 @@ use Rattle.demands.specs.Demands.{NoneReserved}
 use Rattle.demands.proofs.BuiltRows.{built-row-y, built-row-c}
 
 pub none-reserved : NoneReserved
-unfolding any
+unfolding any checksumOf headerWord
 none-reserved =
     record {
-      inverse = λ w h e. rw (inverse-not-reserved w h e);
+      inverse = λ w i. rw (inverse-not-reserved w (i .0) (i .1));
       xyz = λ f v h. rw (xyz-not-reserved f v h);
-      line-number = λ line. rw (line-not-reserved line .0, line-not-reserved line .1);
-      crc = λ register. rw (cr-not-reserved register .0, cr-not-reserved register .1);
-      checksum = λ ws. rw (checksum-not-reserved ws);
-      header = λ byte. rw (header-not-reserved byte);
+      line-number = λ line. (nine-inverse (line % 128 * 4), nine-inverse (line / 128 % 16 * 4));
+      crc = λ register. (nine-inverse register, nine-inverse (register / 512));
+      checksum = λ ws. nine-inverse (sumOf ws % 512);
+      header = λ byte. nine-inverse (byte + digit (parity (bits 8 byte)) * 256);
       packet = λ did sdid user out made.
           let ok = sym (Found.made-number did sdid user out refl) ∙ made in
           ap (λ (l : List ℕ). any reservedCode (drop 3 l)) (Found.made-packet did sdid user out refl refl refl ok)

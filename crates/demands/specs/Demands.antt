@@ -390,18 +390,22 @@ FeedsCut = (feeds : List (List ℕ)) (x : Bench) → feedRefusal (x .session) (e
 -- ---- (request 7) "Every word we make has bit 9 the inverse of bit 8, or is one of the eight timing codes ..": "no made XYZ, line number, CRC,
 -- ---- checksum or header word falls in the reserved ranges for any input"
 
+-- a word of ten bits with bit 9 the inverse of bit 8
+abbrev pub Inverse : ℕ → Type 0
+Inverse w = (w ≤ 0x3ff) × (odd (w / 512) ≡ not (odd (w / 256)))
+
 -- none of these words is a reserved code
 abbrev pub Free : List ℕ → Type 0
 Free ws = any reservedCode ws ≡ false
 
 -- the one law, and each kind of word: any F, V and H, any line of any raster, any register, any words summed, any byte
 pub record NoneReserved : Type 0 where
-  pub inverse : (w : ℕ) → w ≤ 0x3ff → odd (w / 512) ≡ not (odd (w / 256)) → Free (w ∷ [])
+  pub inverse : (w : ℕ) → Inverse w → Free (w ∷ [])
   pub xyz : (f v h : Bool) → Free (xyzOf f v h ∷ [])
-  pub line-number : (line : ℕ) → Free (ln0Of line ∷ ln1Of line ∷ [])
-  pub crc : (register : ℕ) → Free (cr0 register ∷ cr1 register ∷ [])
-  pub checksum : (ws : List ℕ) → Free (checksumOf ws ∷ [])
-  pub header : (byte : ℕ) → Free (Packet.headerWord byte ∷ [])
+  pub line-number : (line : ℕ) → Inverse (ln0Of line) × Inverse (ln1Of line)
+  pub crc : (register : ℕ) → Inverse (cr0 register) × Inverse (cr1 register)
+  pub checksum : (ws : List ℕ) → Inverse (checksumOf ws)
+  pub header : (byte : ℕ) → Inverse (Packet.headerWord byte)
   -- so of what the calls leave: a packet after its 000 3FF 3FF; of a row that is built, in both channels, what is made; and of one that is corrected,
   -- its checksums too
   pub packet : (did sdid : ℕ) (user out : List ℕ) → Packet.built did user (length out) .refusal ≡ 0

@@ -75,7 +75,7 @@ module _ (p : Plan) (fits : Fits (p .places)) (plain : Plain (p .codes)) where
         go true = free-checks r ok (headWords p)
         go false = rw (fits .checks)
 
-    pub built-free : (blank : ℕ) (active laid : List ℕ) → length active ≡ p .places .count → length laid ≤ p .places .blanks
+    built-free : (blank : ℕ) (active laid : List ℕ) → length active ≡ p .places .count → length laid ≤ p .places .blanks
         → any reservedCode (madeWords p true (streamOf p known r blank active laid)) ≡ false
     built-free blank active laid long room =
         free-words true (streamOf p known r blank active laid)
@@ -84,7 +84,7 @@ module _ (p : Plan) (fits : Fits (p .places)) (plain : Plain (p .codes)) where
         (savOf-streamOf p fits known r blank active laid long room)
         (ap (any reservedCode) (checksOf-streamOf p fits known r blank active laid long room) ∙ free-crcFor)
 
-    pub corrected-free : (ws : List ℕ) → length ws ≡ p .places .total
+    corrected-free : (ws : List ℕ) → length ws ≡ p .places .total
         → any reservedCode (madeWords p known (putRight p known r ws) ++ sumsOf p (putRight p known r ws)) ≡ false
     unfolding any
     corrected-free ws long =

@@ -8,7 +8,7 @@ ghost use Rattle.align.specs.Sync.{first_sync, found_sync, sync_refusal, sync_pl
 ghost use Rattle.align.specs.Search.{searched, place_ending};
 
 // Where the first sync starts: in which word, and at which of its ten bits.
-#[derive(Drop)]
+#[derive(Clone, Copy)]
 pub enum Sync {
     Refused,
     Nothing,
@@ -19,7 +19,7 @@ pub enum Sync {
 pub const SYNC: u64 = 0xfffff;
 
 // A word's search: the bit at which a sync ends, or the last sixty bits to go on with.
-#[derive(Drop)]
+#[derive(Clone, Copy)]
 enum Searched {
     Ends(u32),
     Last(u64),

@@ -9,14 +9,14 @@ use sdi::{Desk, Label, Outcome, OutcomeKind};
 const OUTPUT: usize = 4096;
 
 // How many bytes of the output are laid; open: those that were written out were taken.
-#[derive(Drop)]
+#[derive(Clone, Copy)]
 struct Laid {
     bytes: usize,
     open: bool,
 }
 
 // How many bytes were served, and laid; more: the file is not refused and the output is not closed.
-#[derive(Drop)]
+#[derive(Clone, Copy)]
 struct Served {
     bytes: usize,
     laid: usize,

@@ -5,7 +5,7 @@ ghost use Rattle.bits.specs.Words.{words10};
 ghost use Rattle.cable.specs.Bits.{levels, past, scrambler, nrzi};
 ghost use Rattle.cable.specs.Words.{scramble_word, unscramble_word, scramble_words, unscramble_words, scramble_next, unscramble_next, code_refusal, coded, filled};
 
-#[derive(Drop)]
+#[derive(Clone, Copy)]
 pub struct Coded {
     pub refusal: u8,
     pub history: u16,

@@ -9,13 +9,13 @@ use sheet::STEPS;
 // The highest register: eighteen ones.
 pub const REGISTER_TOP: u32 = 0x3ffff;
 
-#[derive(Drop)]
+#[derive(Clone, Copy)]
 pub struct Ran {
     pub refusal: u8,
     pub register: u32,
 }
 
-#[derive(Drop)]
+#[derive(Clone, Copy)]
 pub struct CrcWords {
     pub refusal: u8,
     pub cr0: u16,

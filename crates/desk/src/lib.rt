@@ -6,7 +6,7 @@ use reader::{Piece, Reader, Stage, Tag};
 use session::{Ended, Session};
 use tally::{Counts, Verdict};
 
-#[derive(Drop)]
+#[derive(Clone, Copy)]
 pub struct Job {
     pub tag: Tag,
     pub raster: u32,
@@ -16,7 +16,7 @@ pub struct Job {
 }
 
 // Of bytes: no job's end is among them; a job is done; the file is refused.
-#[derive(Drop)]
+#[derive(Clone, Copy)]
 pub enum Kind {
     Nothing,
     Done,
@@ -24,14 +24,14 @@ pub enum Kind {
 }
 
 // The job that is done; an empty one where none is.
-#[derive(Drop)]
+#[derive(Clone, Copy)]
 pub struct Outcome {
     pub kind: Kind,
     pub job: Job,
 }
 
 // The session is open while a job's words are read, and counts for nothing else.
-#[derive(Drop)]
+#[derive(Clone, Copy)]
 pub struct Desk {
     pub reader: Reader,
     pub session: Session,
@@ -43,27 +43,27 @@ const FEW: usize = 256;
 const MANY: usize = 1024;
 
 // The reader after bytes that it read alone, and where the bytes after them start.
-#[derive(Drop)]
+#[derive(Clone, Copy)]
 struct Skimmed {
     reader: Reader,
     at: usize,
 }
 
 // The desk after bytes that were taken ahead, and where the bytes after them start.
-#[derive(Drop)]
+#[derive(Clone, Copy)]
 struct Rushed {
     desk: Desk,
     at: usize,
 }
 
-#[derive(Drop)]
+#[derive(Clone, Copy)]
 struct Turn {
     desk: Desk,
     outcome: Outcome,
 }
 
 // How many bytes were taken: up to the one that ends a job or is refused, or all.
-#[derive(Drop)]
+#[derive(Clone, Copy)]
 pub struct Taken {
     pub refusal: u8,
     pub desk: Desk,

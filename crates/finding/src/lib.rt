@@ -10,13 +10,13 @@ ghost use Rattle.finding.specs.Extract.{channel_of, extract_refusal, extracted, 
 use plan::Plan;
 use scan::Here;
 
-#[derive(Drop)]
+#[derive(Clone, Copy)]
 pub enum Channel {
     Y,
     C,
 }
 
-#[derive(Drop)]
+#[derive(Clone, Copy)]
 pub struct Extracted {
     pub refusal: u8,
     pub words: usize,

@@ -15,7 +15,7 @@ const BACK: usize = 304;
 const BLOCK: usize = 512;
 
 // The registers of the channels Y and C.
-#[derive(Drop)]
+#[derive(Clone, Copy)]
 pub struct Registers {
     pub y: u32,
     pub c: u32,

@@ -6,7 +6,7 @@ use recogniser::Event;
 use row::Carry;
 
 // What is expected of the next row: its line, 0 where none is known, and the carry that the judged row before it left.
-#[derive(Drop)]
+#[derive(Clone, Copy)]
 pub struct Track {
     pub line: u32,
     pub carry: Carry,
@@ -14,7 +14,7 @@ pub struct Track {
 
 // What happens at a bit: nothing; a row judged (its line, its flags, whether its CRC could be judged); a row without a line number;
 // a row dropped by an EAV at another distance, by four pairs that are no EAV, by a sync at another alignment.
-#[derive(Drop)]
+#[derive(Clone, Copy)]
 pub enum Happening {
     Quiet,
     RowJudged(u32, u16, bool),
@@ -24,7 +24,7 @@ pub enum Happening {
     DroppedAstray,
 }
 
-#[derive(Drop)]
+#[derive(Clone, Copy)]
 pub struct Happened {
     pub happening: Happening,
     pub track: Track,

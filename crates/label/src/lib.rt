@@ -9,7 +9,7 @@ use reader::Tag;
 use tally::Verdict;
 
 // The first `size` bytes are the line.
-#[derive(Drop)]
+#[derive(Clone, Copy)]
 pub struct Label {
     pub bytes: [u8; Label::ROOM],
     pub size: usize,

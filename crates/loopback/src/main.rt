@@ -16,7 +16,7 @@ const LINES: u32 = 750;
 const ROWS: u32 = LINES + 2;
 
 // A row on the cable, and what it leaves for the next where rows are built and scrambled.
-#[derive(Drop)]
+#[derive(Clone, Copy)]
 struct Sent {
     cable: [u16; 3300],
     carry: Carry,

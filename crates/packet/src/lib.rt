@@ -4,14 +4,14 @@ ghost use Rattle.parts.specs.Parts.{laid, laid_unless};
 ghost use Rattle.scan.specs.Packet.{checksum_of};
 ghost use Rattle.packet.specs.Build.{body_of, build_refusal, built, header_word, packet_of};
 
-#[derive(Drop)]
+#[derive(Clone, Copy)]
 pub struct Built {
     pub refusal: u8,
     pub words: usize,
 }
 
 // The words of a packet that are made: its headers and its checksum.
-#[derive(Drop)]
+#[derive(Clone, Copy)]
 struct Made {
     pub did: u16,
     pub sdid: u16,

@@ -5,7 +5,7 @@ ghost use Rattle.plan.specs.Refusal.{row_refusal};
 
 // Where the parts of a row lie: T, the numbers of line number and CRC words, the place of the CRC, the place and length of the
 // blanking, the places of SAV and active words, A.
-#[derive(Drop)]
+#[derive(Clone, Copy)]
 pub struct Places {
     pub total: usize,
     pub lines: usize,
@@ -19,7 +19,7 @@ pub struct Places {
 }
 
 // The XYZ words of EAV and SAV, and the line number words.
-#[derive(Drop)]
+#[derive(Clone, Copy)]
 pub struct Codes {
     pub eav: u16,
     pub sav: u16,
@@ -27,7 +27,7 @@ pub struct Codes {
     pub ln1: u16,
 }
 
-#[derive(Drop)]
+#[derive(Clone, Copy)]
 pub struct Plan {
     pub refusal: u8,
     pub v: bool,

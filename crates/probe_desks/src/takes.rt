@@ -7,7 +7,7 @@ use probe_sessions::fields::{session_at, then_session};
 use sdi::{Desk, Taken};
 
 // A desk that has taken the bytes before a place.
-#[derive(Drop)]
+#[derive(Clone, Copy)]
 struct Stand {
     desk: Desk,
     at: usize,

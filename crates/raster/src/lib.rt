@@ -6,14 +6,14 @@ ghost use Rattle.raster.specs.Lines.{between, line_facts, v_of, f_of};
 // The highest code; the lowest is 1, and 0 stands for one of them.
 pub const HIGHEST: u32 = 11;
 
-#[derive(Drop)]
+#[derive(Clone, Copy)]
 pub enum Kind {
     Progressive,
     TwoFields,
 }
 
 // How a row is laid out, as data: the unit of alignment in bits, T, A, and how many line number and CRC words there are.
-#[derive(Drop)]
+#[derive(Clone, Copy)]
 pub struct Layout {
     pub unit: u32,
     pub total: usize,
@@ -22,7 +22,7 @@ pub struct Layout {
     pub checks: usize,
 }
 
-#[derive(Drop)]
+#[derive(Clone, Copy)]
 pub struct Raster {
     pub code: u32,
     pub layout: Layout,
@@ -30,13 +30,13 @@ pub struct Raster {
     pub kind: Kind,
 }
 
-#[derive(Drop)]
+#[derive(Clone, Copy)]
 pub struct LookedUp {
     pub refusal: u8,
     pub raster: Raster,
 }
 
-#[derive(Drop)]
+#[derive(Clone, Copy)]
 pub struct LineFacts {
     pub refusal: u8,
     pub v: bool,
@@ -44,7 +44,7 @@ pub struct LineFacts {
 }
 
 // A row of the table.
-#[derive(Drop)]
+#[derive(Clone, Copy)]
 struct Entry {
     pub total: usize,
     pub active: usize,

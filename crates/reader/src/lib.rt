@@ -3,7 +3,7 @@ ghost use Rattle.std.specs.Prelude.{◌≡◌, ◌<◌};
 ghost use Rattle.reader.specs.Reader.{blank, brings, chooses, counted, ends, fresh, goes_on, is_cut, of_high_byte, of_low_byte, of_options_count, of_raster_byte, of_tag_byte, of_tag_count, of_wipe_byte, of_word_count, read_of, refused, tagged, tag_with, waits, word_of};
 
 // What the next byte is of.
-#[derive(Drop)]
+#[derive(Clone, Copy)]
 pub enum Stage {
     TagCount,
     TagBytes,
@@ -17,26 +17,26 @@ pub enum Stage {
 }
 
 // While a section's count comes, its bytes so far and how many these are; then how many bytes of a tag, or words, are left.
-#[derive(Drop)]
+#[derive(Clone, Copy)]
 pub struct Count {
     pub left: u32,
     pub seen: u8,
 }
 
-#[derive(Drop)]
+#[derive(Clone, Copy)]
 pub struct Tag {
     pub bytes: [u8; 32],
     pub size: u8,
 }
 
-#[derive(Drop)]
+#[derive(Clone, Copy)]
 pub struct Options {
     pub raster: u8,
     pub wipe: bool,
 }
 
 // low: of a word whose high byte is to come.
-#[derive(Drop)]
+#[derive(Clone, Copy)]
 pub struct Reader {
     pub stage: Stage,
     pub count: Count,
@@ -46,7 +46,7 @@ pub struct Reader {
 }
 
 // What a byte completes: nothing of these; the options, with their raster; a word; or it is refused.
-#[derive(Drop)]
+#[derive(Clone, Copy)]
 pub enum Piece {
     More,
     Chosen(u8),
@@ -55,7 +55,7 @@ pub enum Piece {
 }
 
 // ends: the byte was the last of a job.
-#[derive(Drop)]
+#[derive(Clone, Copy)]
 pub struct Read {
     pub piece: Piece,
     pub ends: bool,

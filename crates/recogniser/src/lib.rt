@@ -9,7 +9,7 @@ use timing::Timing;
 
 // The end of the stream: its last sixty bits as a number, oldest lowest; how many bits of a sync's XYZ pair are still to come;
 // whether a sync was seen.
-#[derive(Drop)]
+#[derive(Clone, Copy)]
 pub struct Window {
     pub last: u64,
     pub ahead: u8,
@@ -17,13 +17,13 @@ pub struct Window {
 }
 
 // How far the open row has come: pairs that have ended (0 where no row is open), bits of the next pair.
-#[derive(Drop)]
+#[derive(Clone, Copy)]
 pub struct Place {
     pub pairs: usize,
     pub bit: u8,
 }
 
-#[derive(Drop)]
+#[derive(Clone, Copy)]
 pub struct Sight {
     pub window: Window,
     pub place: Place,
@@ -31,7 +31,7 @@ pub struct Sight {
 
 // What a bit completes: nothing, outside of rows; nothing, within a pair; a pair; an EAV that opens a row, that ends a whole row, or that comes
 // early; the four pairs after the T-th, no EAV; a sync at another alignment.
-#[derive(Drop)]
+#[derive(Clone, Copy)]
 pub enum Event {
     Outside,
     Within,
@@ -44,13 +44,13 @@ pub enum Event {
 }
 
 // The words of a pair.
-#[derive(Drop)]
+#[derive(Clone, Copy)]
 pub struct Words {
     pub c: u16,
     pub y: u16,
 }
 
-#[derive(Drop)]
+#[derive(Clone, Copy)]
 pub struct Looked {
     pub event: Event,
     pub sight: Sight,

@@ -11,7 +11,7 @@ use plan::Plan;
 use row::{Before, Carry};
 use stream::{C_BLANK, Y_BLANK};
 
-#[derive(Drop)]
+#[derive(Clone, Copy)]
 pub struct Corrected {
     pub refusal: u8,
     pub carry: Carry,

@@ -9,27 +9,27 @@ use plan::Plan;
 use stream::Faults;
 
 // The CRC registers of Y and C after a row's active words, or nothing where there was no row.
-#[derive(Drop)]
+#[derive(Clone, Copy)]
 pub enum Carry {
     Nothing,
     Registers(u32, u32),
 }
 
 // What a carry says.
-#[derive(Drop)]
+#[derive(Clone, Copy)]
 pub struct Before {
     pub known: bool,
     pub y: u32,
     pub c: u32,
 }
 
-#[derive(Drop)]
+#[derive(Clone, Copy)]
 pub struct Judged {
     pub flags: u16,
     pub carry: Carry,
 }
 
-#[derive(Drop)]
+#[derive(Clone, Copy)]
 pub struct Checked {
     pub refusal: u8,
     pub flags: u16,

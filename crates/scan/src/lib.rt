@@ -5,7 +5,7 @@ ghost use Rattle.scan.specs.Packet.{checksum_of, marked};
 ghost use Rattle.scan.specs.Scan.{piece_at, scan, scanned, here_of};
 
 // What stands at a place of a region: no packet starts there, a cut one, or a whole one of so many words.
-#[derive(Drop)]
+#[derive(Clone, Copy)]
 pub enum Here {
     Nothing,
     Cut,
@@ -13,7 +13,7 @@ pub enum Here {
 }
 
 // What is told of a region.
-#[derive(Drop)]
+#[derive(Clone, Copy)]
 pub struct Scanned {
     pub words: usize,
     pub cut: bool,

@@ -6,7 +6,7 @@ ghost use Rattle.section.specs.Section.{after_words, run_of, run_words, starts_n
 use reader::{Count, Reader, Stage};
 
 // How many words were read, and the reader after them.
-#[derive(Drop)]
+#[derive(Clone, Copy)]
 pub struct Run {
     pub reader: Reader,
     pub words: usize,

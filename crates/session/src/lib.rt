@@ -12,7 +12,7 @@ use stepper::State;
 use tally::{Counts, Verdict};
 
 // docs/SESSION.md has the range of every number.
-#[derive(Drop)]
+#[derive(Clone, Copy)]
 pub struct Session {
     pub running: bool,
     pub raster: u32,
@@ -20,19 +20,19 @@ pub struct Session {
     pub state: State,
 }
 
-#[derive(Drop)]
+#[derive(Clone, Copy)]
 pub struct Begun {
     pub refusal: u8,
     pub session: Session,
 }
 
-#[derive(Drop)]
+#[derive(Clone, Copy)]
 pub struct Fed {
     pub refusal: u8,
     pub session: Session,
 }
 
-#[derive(Drop)]
+#[derive(Clone, Copy)]
 pub struct Ended {
     pub refusal: u8,
     pub raster: u32,

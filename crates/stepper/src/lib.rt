@@ -11,7 +11,7 @@ use recogniser::{Event, Looked, Sight};
 use tally::Counts;
 
 // What is seen of the stream, what is expected of the next row, what was counted.
-#[derive(Drop)]
+#[derive(Clone, Copy)]
 pub struct State {
     pub sight: Sight,
     pub track: Track,

@@ -13,7 +13,7 @@ pub const Y_BLANK: u16 = 0x040;
 
 pub const C_BLANK: u16 = 0x200;
 
-#[derive(Drop)]
+#[derive(Clone, Copy)]
 pub struct Faults {
     pub eav: bool,
     pub sav: bool,

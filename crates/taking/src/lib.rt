@@ -16,7 +16,7 @@ use recogniser::{Place, Sight, Window};
 use stepper::State;
 
 // Up to which word of a block words were taken at once, and what is seen then.
-#[derive(Drop)]
+#[derive(Clone, Copy)]
 struct Hurried {
     at: usize,
     sight: Sight,

@@ -6,14 +6,14 @@ ghost use Rattle.tally.specs.Tally.{is_fault, is_row, label, label_for, no_count
 use judging::Happening;
 
 // Rows whose CRC could be judged, and faults.
-#[derive(Drop)]
+#[derive(Clone, Copy)]
 pub struct Counts {
     pub rows: u32,
     pub faults: u32,
 }
 
 // `Refused` is the verdict of a call that was refused; no label has a word for it.
-#[derive(Drop)]
+#[derive(Clone, Copy)]
 pub enum Verdict {
     Refused,
     NoSignal,

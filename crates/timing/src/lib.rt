@@ -5,21 +5,21 @@ ghost use Rattle.timing.specs.Xyz.{xyz_of, read_xyz, told, reading_of};
 ghost use Rattle.timing.specs.Line.{line_words, line_from, line_read};
 
 // What an XYZ word says.
-#[derive(Drop)]
+#[derive(Clone, Copy)]
 pub enum Timing {
     Refused,
     Inexact,
     Exact(bool, bool, bool),
 }
 
-#[derive(Drop)]
+#[derive(Clone, Copy)]
 pub struct LineWords {
     pub refusal: u8,
     pub ln0: u16,
     pub ln1: u16,
 }
 
-#[derive(Drop)]
+#[derive(Clone, Copy)]
 pub struct LineRead {
     pub refusal: u8,
     pub line: u32,

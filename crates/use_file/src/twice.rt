@@ -5,25 +5,25 @@ ghost use Rattle.std.specs.Prelude.{◌≡◌};
 use desk::{Desk, Outcome, Taken};
 use label::Label;
 
-#[derive(Drop)]
+#[derive(Clone, Copy)]
 pub struct TwoDesks {
     pub first: Desk,
     pub second: Desk,
 }
 
-#[derive(Drop)]
+#[derive(Clone, Copy)]
 pub struct TwoTaken {
     pub first: Taken,
     pub second: Taken,
 }
 
-#[derive(Drop)]
+#[derive(Clone, Copy)]
 pub struct TwoOutcomes {
     pub first: Outcome,
     pub second: Outcome,
 }
 
-#[derive(Drop)]
+#[derive(Clone, Copy)]
 pub struct TwoLabels {
     pub first: Label,
     pub second: Label,

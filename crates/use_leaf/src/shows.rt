@@ -4,7 +4,7 @@ ghost use Rattle.cable.specs.Words.{code_refusal};
 
 use cable::Coded;
 
-#[derive(Drop)]
+#[derive(Clone, Copy)]
 pub struct Trip {
     pub there: Coded,
     pub back: Coded,

@@ -8,67 +8,67 @@ use crc::{CrcWords, Ran};
 use raster::{Kind, LineFacts, LookedUp};
 use timing::{LineRead, LineWords, Timing};
 
-#[derive(Drop)]
+#[derive(Clone, Copy)]
 pub struct Words {
     pub first: u16,
     pub second: u16,
 }
 
-#[derive(Drop)]
+#[derive(Clone, Copy)]
 pub struct Numbers {
     pub first: u32,
     pub second: u32,
 }
 
-#[derive(Drop)]
+#[derive(Clone, Copy)]
 pub struct TwoLookedUp {
     pub first: LookedUp,
     pub second: LookedUp,
 }
 
-#[derive(Drop)]
+#[derive(Clone, Copy)]
 pub struct TwoLineFacts {
     pub first: LineFacts,
     pub second: LineFacts,
 }
 
-#[derive(Drop)]
+#[derive(Clone, Copy)]
 pub struct TwoRan {
     pub first: Ran,
     pub second: Ran,
 }
 
-#[derive(Drop)]
+#[derive(Clone, Copy)]
 pub struct TwoCrcWords {
     pub first: CrcWords,
     pub second: CrcWords,
 }
 
-#[derive(Drop)]
+#[derive(Clone, Copy)]
 pub struct TwoCoded {
     pub first: Coded,
     pub second: Coded,
 }
 
-#[derive(Drop)]
+#[derive(Clone, Copy)]
 pub struct TwoSyncs {
     pub first: Sync,
     pub second: Sync,
 }
 
-#[derive(Drop)]
+#[derive(Clone, Copy)]
 pub struct TwoTimings {
     pub first: Timing,
     pub second: Timing,
 }
 
-#[derive(Drop)]
+#[derive(Clone, Copy)]
 pub struct TwoLineWords {
     pub first: LineWords,
     pub second: LineWords,
 }
 
-#[derive(Drop)]
+#[derive(Clone, Copy)]
 pub struct TwoLineReads {
     pub first: LineRead,
     pub second: LineRead,

@@ -18,7 +18,7 @@ use plan::Plan;
 use repair::Corrected;
 use row::{Carry, Checked};
 
-#[derive(Drop)]
+#[derive(Clone, Copy)]
 pub struct Sought {
     pub refusal: u8,
     pub words: usize,

@@ -21,7 +21,7 @@ use row::{Carry, Checked};
 
 // ---- Demand 2: a packet that was built is found by its DID and SDID.
 
-#[derive(Drop)]
+#[derive(Clone, Copy)]
 pub struct Sought {
     pub refusal: u8,
     pub found: bool,
@@ -63,7 +63,7 @@ pub fn built_and_found(
 
 // ---- Demand 2: "A line built by us from lawful words and whole packets, checked after the same line before it, shows no flag."
 
-#[derive(Drop)]
+#[derive(Clone, Copy)]
 pub struct Line {
     pub built: Built,
     pub checked: Checked,
@@ -109,7 +109,7 @@ pub fn built_and_checked(
 // ---- Correction: "Rechecked with the same carried CRC, flags 0 to 6 are clear; 7 and 8 remain as they were. If wiping is chosen, .. flag 7
 // too, then follows from the wiped row." Demand 1: a refused correction changes nothing.
 
-#[derive(Drop)]
+#[derive(Clone, Copy)]
 pub struct Recheck {
     pub before: Checked,
     pub corrected: Corrected,
@@ -144,7 +144,7 @@ pub fn corrected_and_checked(
 // ---- Demand 3: of two rows on the cable, a changed run of at most eighteen bits from the first row's active words to the next row's line
 // number is flagged by a check code of the next row.
 
-#[derive(Drop)]
+#[derive(Clone, Copy)]
 pub struct Rows {
     pub first: Checked,
     pub second: Checked,

@@ -6,37 +6,37 @@ use finding::{Channel, Extracted};
 use repair::Corrected;
 use row::{Carry, Checked};
 
-#[derive(Drop)]
+#[derive(Clone, Copy)]
 pub struct Numbers {
     pub first: u8,
     pub second: u8,
 }
 
-#[derive(Drop)]
+#[derive(Clone, Copy)]
 pub struct TwoPackets {
     pub first: packet::Built,
     pub second: packet::Built,
 }
 
-#[derive(Drop)]
+#[derive(Clone, Copy)]
 pub struct TwoExtracted {
     pub first: Extracted,
     pub second: Extracted,
 }
 
-#[derive(Drop)]
+#[derive(Clone, Copy)]
 pub struct TwoChecked {
     pub first: Checked,
     pub second: Checked,
 }
 
-#[derive(Drop)]
+#[derive(Clone, Copy)]
 pub struct TwoCorrected {
     pub first: Corrected,
     pub second: Corrected,
 }
 
-#[derive(Drop)]
+#[derive(Clone, Copy)]
 pub struct TwoRows {
     pub first: compose::Built,
     pub second: compose::Built,

@@ -10,7 +10,7 @@ use session::{Ended, Fed, Session};
 
 // ---- Demand 1: "A module's verdict depends only on its own words and its chosen raster".
 
-#[derive(Drop)]
+#[derive(Clone, Copy)]
 pub struct TwoEnded {
     pub first: Ended,
     pub second: Ended,

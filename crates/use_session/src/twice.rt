@@ -4,25 +4,25 @@ ghost use Rattle.std.specs.Prelude.{◌≡◌};
 
 use session::{Begun, Ended, Fed, Session};
 
-#[derive(Drop)]
+#[derive(Clone, Copy)]
 pub struct TwoSessions {
     pub first: Session,
     pub second: Session,
 }
 
-#[derive(Drop)]
+#[derive(Clone, Copy)]
 pub struct TwoBegun {
     pub first: Begun,
     pub second: Begun,
 }
 
-#[derive(Drop)]
+#[derive(Clone, Copy)]
 pub struct TwoFed {
     pub first: Fed,
     pub second: Fed,
 }
 
-#[derive(Drop)]
+#[derive(Clone, Copy)]
 pub struct TwoEnded {
     pub first: Ended,
     pub second: Ended,

@@ -1,0 +1,12 @@
+use Prim.Native.Nat.{◌-◌}
+use lib.ListN.{length}
+use Rattle.cable.specs.Words.{unscramble_words, unscramble_next}
+use Rattle.cable.proofs.Coding.{Filling}
+use Rattle.cable.proofs.unscramble_all.Given as goal
+
+-- unscramble_all: what is left, after the cable bits so far, gives the rest of the result.
+abbrev pub invariant-loop-i : goal.invariant-loop-i
+invariant-loop-i l = Filling unscramble_words unscramble_next l.history l.words l.initial.out l.h l.i l.out
+
+abbrev pub decreases-loop-i : goal.decreases-loop-i
+decreases-loop-i l = length l.words - l.i

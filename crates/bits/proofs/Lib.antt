@@ -7,3 +7,4 @@ pub mod Ones
 pub mod Words
 pub mod Below
 pub mod Each
+pub mod Clauses

@@ -1,7 +1,5 @@
--- code_refusal: each return follows from the tests that led to it.
 use mathlib.Core.Path.{◌≡◌, sym, ◌∙◌}
 use mathlib.Core.Bool.{true, false}
-use borrow.Author.Tests.{not-true, not-false}
 use Rattle.bits.specs.Words.{words10}
 use Rattle.cable.specs.Words.{code_refusal}
 use Rattle.bits.proofs.Cascade.{cascade}
@@ -15,17 +13,17 @@ returns-then-history-gt1023 c = search cascade depth 12
 pub returns-then-not-all_words : goal.returns-then-not-all_words
 unfolding code_refusal
 returns-then-not-all_words c =
-    let f : words10 c.args.words.now ≡ false = sym c.before.All-words.ensures ∙ not-true _ c.if-not-all_words.true in
+    let f : words10 c.args.words.now ≡ false = sym c.all_words.ensures ∙ c.if-not-all_words.true in
     search cascade depth 12
 
 pub returns-then-words-room : goal.returns-then-words-room
 unfolding code_refusal
 returns-then-words-room c =
-    let f : words10 c.args.words.now ≡ true = sym c.before.before.All-words.ensures ∙ not-false _ c.if-not-all_words.false in
+    let f : words10 c.args.words.now ≡ true = sym c.all_words.ensures ∙ c.if-not-all_words.false in
     search cascade depth 12
 
 pub returns : goal.returns
 unfolding code_refusal
 returns c =
-    let f : words10 c.args.words.now ≡ true = sym c.before.before.All-words.ensures ∙ not-false _ c.if-not-all_words.false in
+    let f : words10 c.args.words.now ≡ true = sym c.all_words.ensures ∙ c.if-not-all_words.false in
     search cascade depth 12

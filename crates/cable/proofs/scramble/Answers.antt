@@ -2,10 +2,11 @@
 use mathlib.Core.Path.{sym, ◌∙◌}
 use native.Mathlib.Omega.{arith}
 use Rattle.cable.proofs.Words.{code_refused, code_refusal_none}
+use Rattle.bits.proofs.Clauses.{answer_output}
 use Rattle.cable.proofs.scramble.Goals as goal
 
 pub returns-then-refusal-ne0 : goal.returns-then-refusal-ne0
-returns-then-refusal-ne0 c = code_refused _ _ _ c.if-refusal-ne0.true c.code_refusal-refusal.ensures
+returns-then-refusal-ne0 c = answer_output (code_refused _ _ _ c.if-refusal-ne0.true c.code_refusal-refusal.ensures)
 
 pub scramble_all-next-requires : goal.scramble_all-next-requires
 scramble_all-next-requires c =
@@ -16,4 +17,4 @@ pub returns : goal.returns
 returns c =
     let none = sym c.code_refusal-refusal.ensures ∙ c.if-refusal-ne0.false in
     let done = c.scramble_all-next.ensures in
-    (rw (none, done.0), done.1 ∙ rw none)
+    record { answer = rw (none, done.0); output = done.1 ∙ rw none }

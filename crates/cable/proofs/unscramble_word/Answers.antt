@@ -1,4 +1,3 @@
--- unscramble_word: its word-wide xors are the definition, bit by bit.
 use native.Mathlib.Omega.{arith}
 use Rattle.cable.proofs.Codes.{unscramble_code}
 use Rattle.cable.proofs.unscramble_word.Goals as goal

@@ -1,4 +1,3 @@
--- `words_of`: each return is a case of `cr_words`.
 use mathlib.Core.Path.{sym}
 use native.Mathlib.Omega.{arith}
 use Rattle.bits.proofs.Words.{nine_of_low}

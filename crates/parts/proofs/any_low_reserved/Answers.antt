@@ -1,14 +1,10 @@
 use mathlib.Core.Path.{refl, sym, ◌∙◌}
-use mathlib.Core.Bool.{Bool}
-use Prim.Native.Nat.{ℕ, ◌-◌, ◌%◌}
+use Prim.Native.Nat.{◌-◌}
 use native.Mathlib.Omega.{arith}
-use Rattle.bits.specs.Words.{reserved_code}
 use Rattle.bits.proofs.Words.{reserved_low}
 use Rattle.parts.proofs.Comparing.{any-found_step, any-found_end}
+use Rattle.parts.proofs.any_low_reserved.Invariants.{low}
 use Rattle.parts.proofs.any_low_reserved.Goals as goal
-
-abbrev low : ℕ → Bool
-low w = reserved_code (w % 1024)
 
 pub loop-i-init : goal.loop-i-init
 loop-i-init c = (omega arith, refl)

@@ -1,14 +1,13 @@
 use mathlib.Core.Path.{refl, sym, ◌∙◌}
 use Prim.Native.Nat.{◌-◌}
 use native.Mathlib.Omega.{arith}
-use borrow.Author.Tests.{not-true}
 use Rattle.bits.specs.Words.{reserved_code}
 use Rattle.bits.proofs.Words.{reserved_of_low}
 use Rattle.parts.proofs.Comparing.{any_step, any_stop, any_end, any_weaken}
 use Rattle.parts.proofs.any_reserved.Goals as goal
 
 pub returns-then-not-any_low_reserved : goal.returns-then-not-any_low_reserved
-returns-then-not-any_low_reserved c = sym (any_weaken _ reserved_code reserved_of_low _ (sym c.any_low_reserved.ensures ∙ not-true _ c.if-not-any_low_reserved.true))
+returns-then-not-any_low_reserved c = sym (any_weaken _ reserved_code reserved_of_low _ (sym c.any_low_reserved.ensures ∙ c.if-not-any_low_reserved.true))
 
 pub loop-i-init : goal.loop-i-init
 loop-i-init c = (omega arith, refl)

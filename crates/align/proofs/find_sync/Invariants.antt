@@ -1,0 +1,12 @@
+use mathlib.Core.Path.{◌≡◌}
+use Prim.Native.Nat.{◌-◌, ◌*◌, ◌≤◌}
+use lib.ListN.{length, drop}
+use Rattle.bits.specs.Bits.{word_bits}
+use Rattle.align.proofs.Search.{ends}
+use Rattle.align.proofs.find_sync.Given as goal
+
+abbrev pub invariant-loop-i : goal.invariant-loop-i
+invariant-loop-i l = (l.i ≤ length l.words) × (ends (l.i * 10) l.last (word_bits (drop l.i l.words)) ≡ ends 0 0 (word_bits l.words))
+
+abbrev pub decreases-loop-i : goal.decreases-loop-i
+decreases-loop-i l = length l.words - l.i

@@ -1,0 +1,7 @@
+-- A contract of several clauses, each under its name, from the product of them.
+
+pub answer_means : {A B : Type 0} → A × B → record { answer : A; means : B }
+answer_means p = record { answer = p.0; means = p.1 }
+
+pub answer_output : {A B : Type 0} → A × B → record { answer : A; output : B }
+answer_output p = record { answer = p.0; output = p.1 }

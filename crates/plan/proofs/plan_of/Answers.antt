@@ -18,7 +18,7 @@ found c =
 range : (c : After-raster_of-looked) → InRange c.raster_of-looked.result.raster
 range c =
     let at = c.args in
-    rw c.raster_of-looked.ensures (looked_up_range at.raster (line_refusal_ok at.raster at.line (found first).ok).0)
+    rw c.raster_of-looked.ensures (looked_up_range at.raster (line_refusal_ok at.raster at.line (facts_found at.raster at.line _ c.line_facts-facts.ensures c.if-facts-ne0.false).ok).0)
 
 pub returns-then-facts-ne0 : goal.returns-then-facts-ne0
 returns-then-facts-ne0 c =

@@ -1,3 +1,4 @@
+use Prim.Native.Nat.{ℕ}
 use mathlib.Core.Path.{◌≡◌, sym, ap, ◌∙◌}
 use mathlib.Core.Bool.{◌&&◌}
 use borrow.Author.Tests.{not-true, not-false, eq-eqb, ne_eqb}
@@ -6,20 +7,18 @@ use Rattle.bits.specs.Words.{words10}
 use Rattle.raster.specs.Table.{looked_up}
 use Rattle.raster.specs.Lines.{line_refusal}
 use Rattle.plan.specs.declared.Plan.{Plan}
+use Rattle.plan.specs.Plan.{plan_of}
 use Rattle.plan.specs.Refusal.{row_refusal}
 use Rattle.plan.proofs.Plans.{plan_of_refusal, plan_found}
 use Rattle.plan.proofs.Rows.{row_refusal_line, row_refusal_words}
 use Rattle.plan.proofs.row_refusal.Goals as goal
-use Rattle.plan.proofs.row_refusal.Goals.{After-all_words-2, Else-c-total, Else-plan-ne0}
+use Rattle.plan.proofs.row_refusal.Goals.{Else-c-total}
 
 -- past the first test raster and line are right, and T is the raster's
-right : (c : Else-plan-ne0)
-    → let at = c.args in
-    (line_refusal at.raster at.line ≡ 0) × (c.plan_of-plan.result.places.total ≡ (looked_up at.raster).raster.layout.total)
-right c =
-    let at = c.args in
-    let plan = c.plan_of-plan in
-    let known = plan_found at.raster at.line plan.result plan.ensures c.if-plan-ne0.false in
+right : (raster line : ℕ) (plan : Plan) → plan ≡ plan_of raster line → plan.refusal ≡ 0
+    → (line_refusal raster line ≡ 0) × (plan.places.total ≡ (looked_up raster).raster.layout.total)
+right raster line plan e none =
+    let known = plan_found raster line plan e none in
     (known.ok, ap (λ (p : Plan). p.places.total) known.same)
 
 -- past the first three only the words are left
@@ -27,16 +26,8 @@ words : (c : Else-c-total)
     → let at = c.args in
     row_refusal at.raster at.line at.y.now at.c.now ≡ if (words10 at.y.now && words10 at.c.now) 0 3
 words c =
-    let r = right c.before.before in
+    let r = right _ _ _ c.plan_of-plan.ensures c.if-plan-ne0.false in
     row_refusal_words _ _ _ _ r.0 (eq-eqb _ _ (c.if-y-total.false ∙ r.1)) (eq-eqb _ _ (c.if-c-total.false ∙ r.1))
-
--- of which the fourth test has passed Y's
-words-of-c : (c : After-all_words-2)
-    → let at = c.args in
-    row_refusal at.raster at.line at.y.now at.c.now ≡ if c.all_words-2.result 0 3
-words-of-c c =
-    let y = c.all_words in
-    words c.before.before.before ∙ rw (← y.ensures, ← c.all_words-2.ensures, not-false y.result c.if-not-all_words.false)
 
 pub returns-then-plan-ne0 : goal.returns-then-plan-ne0
 returns-then-plan-ne0 c =
@@ -46,21 +37,23 @@ returns-then-plan-ne0 c =
 
 pub returns-then-y-total : goal.returns-then-y-total
 unfolding row_refusal
-returns-then-y-total c = let r = right (goal.at.returns-then-y-total c).Else-plan-ne0 in rw (r.0, ne_eqb _ _ (λ e. c.if-y-total.true (e ∙ sym r.1)))
+returns-then-y-total c = let r = right _ _ _ c.plan_of-plan.ensures c.if-plan-ne0.false in rw (r.0, ne_eqb _ _ (λ e. c.if-y-total.true (e ∙ sym r.1)))
 
 pub returns-then-c-total : goal.returns-then-c-total
 unfolding row_refusal
 returns-then-c-total c =
-    let r = right (goal.at.returns-then-c-total c).Else-plan-ne0 in
+    let r = right _ _ _ c.plan_of-plan.ensures c.if-plan-ne0.false in
     rw (r.0, eq-eqb _ _ (c.if-y-total.false ∙ r.1), ne_eqb _ _ (λ e. c.if-c-total.true (e ∙ sym r.1)))
 
 pub returns-then-not-all_words : goal.returns-then-not-all_words
 returns-then-not-all_words c =
     let y = c.all_words in
-    rw (words (goal.at.returns-then-not-all_words c).Else-c-total, ← y.ensures, not-true y.result c.if-not-all_words.true)
+    rw (words (goal.at.returns-then-not-all_words c).Else-c-total, ← y.ensures, c.if-not-all_words.true)
 
 pub returns-then-not-all_words-2 : goal.returns-then-not-all_words-2
-returns-then-not-all_words-2 c = rw (words-of-c (goal.at.returns-then-not-all_words-2 c).After-all_words-2, not-true c.all_words-2.result c.if-not-all_words-2.true)
+returns-then-not-all_words-2 c =
+    rw (words (goal.at.returns-then-not-all_words-2 c).Else-c-total, ← c.all_words.ensures, ← c.all_words-2.ensures, c.if-not-all_words.false, c.if-not-all_words-2.true)
 
 pub returns : goal.returns
-returns c = rw (words-of-c (goal.at.returns c).After-all_words-2, not-false c.all_words-2.result c.if-not-all_words-2.false)
+returns c =
+    rw (words (goal.at.returns c).Else-c-total, ← c.all_words.ensures, ← c.all_words-2.ensures, c.if-not-all_words.false, c.if-not-all_words-2.false)

@@ -5,3 +5,6 @@ answer_means p = record { answer = p.0; means = p.1 }
 
 pub answer_output : {A B : Type 0} → A × B → record { answer : A; output : B }
 answer_output p = record { answer = p.0; output = p.1 }
+
+pub answer_buffer : {A B : Type 0} → A × B → record { answer : A; buffer : B }
+answer_buffer p = record { answer = p.0; buffer = p.1 }

@@ -1,0 +1,29 @@
+-- of_word_count: the count goes on, or there are no words, or some.
+use native.Mathlib.Omega.{arith}
+use borrow.Author.Tests.{lt-ltb, le-ltb, eq-eqb, ne_eqb}
+use Rattle.reader.specs.Reader.{counted, of_word_count}
+use Rattle.reader.proofs.Reader.of_word_count.Goals as goal
+
+pub returns-then-self-lt3 : goal.returns-then-self-lt3
+unfolding of_word_count
+returns-then-self-lt3 c = rw (c.wait.ensures, c.with-left.ensures, lt-ltb _ _ c.if-self-lt3.true)
+
+pub returns-then-left-eq0 : goal.returns-then-left-eq0
+unfolding of_word_count
+returns-then-left-eq0 c =
+    let at = c.args in
+    let e = c.with-left.ensures in
+    rw (c.end.ensures, le-ltb _ _ c.if-self-lt3.false, eq-eqb (counted at.byte at.self.count) 0 (omega (arith, e)))
+
+pub returns : goal.returns
+unfolding of_word_count
+returns c =
+    let at = c.args in
+    let e = c.with-left.ensures in
+    rw (
+      c.bring.ensures,
+      c.go_on.ensures,
+      e,
+      le-ltb _ _ c.if-self-lt3.false,
+      ne_eqb (counted at.byte at.self.count) 0 (omega (arith, e)),
+    )

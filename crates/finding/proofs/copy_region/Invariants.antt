@@ -1,0 +1,14 @@
+use mathlib.Core.Path.{◌≡◌}
+use Prim.Native.Nat.{◌+◌, ◌-◌}
+use lib.ListN.{length, drop}
+use Rattle.parts.specs.Parts.{laid}
+use Rattle.scan.specs.Scan.{packets_of, scan}
+use Rattle.finding.proofs.copy_region.Given as goal
+
+abbrev pub invariant-scan : goal.invariant-scan
+invariant-scan l = (length l.out ≡ length l.initial.out)
+    × (l.from + length (packets_of (scan l.region)) ≡ l.at + length (packets_of (scan (drop l.i l.region))))
+    × (laid l.from (packets_of (scan l.region)) l.initial.out ≡ laid l.at (packets_of (scan (drop l.i l.region))) l.out)
+
+abbrev pub decreases-scan : goal.decreases-scan
+decreases-scan l = length l.region - l.i

@@ -17,8 +17,8 @@ function call(face, own, text) {
     sub(/;$/, "", face)
     sub(/.*::/, "", face)
     if (methods) for (i = 1; i <= methods; i++) call(face "::" method[i], own "::" method[i], told[i])
-    else if (said != "Types." && own !~ /::[A-Z][A-Za-z0-9]*$/) call(face, own, said)
-    if (said != "Types.") said = ""
+    else if (said !~ /^Types[.;]/) call(face, own, said)
+    if (said !~ /^Types[.;]/) said = ""
     methods = 0
     next
 }

@@ -2,7 +2,6 @@
 # the definitions that its contract names, as `crate File name`, and what is wrong with the contract (a precondition, or no postcondition).
 function over() {
     if (name == "") return
-    gsub(/⌜|⌝/, " ", contract)
     m = split(contract, words, /[ \t(){},;]+/)
     defs = kits = ""
     places = 0
@@ -32,7 +31,7 @@ FNR == 1 {
     split(FILENAME, path, "/")
     crate = path[2]
 }
-# names brought in: `ghost use Rattle·bits.specs.Bits.{number};`, of the crate itself `Rattle·row·specs.specs.Row`, of the kit `lib.ListN`
+# names brought in: `ghost use Rattle.bits.specs.Bits.{number};`, of the kit `Rattle.std.specs.Prelude`
 using || /^ghost use / {
     brought = using ? brought $0 : $0
     using = $0 !~ /;/
@@ -43,9 +42,11 @@ using || /^ghost use / {
     list = brought
     sub(/.*\.\{/, "", list)
     sub(/\}.*/, "", list)
-    if (from ~ /^Rattle·/) { of = from; sub(/^Rattle·/, "", of); sub(/(·specs)?\..*/, "", of) }
-    else if (from ~ /^lib\./) of = "the kit's"
-    else next
+    if (from !~ /^Rattle\./) next
+    of = from
+    sub(/^Rattle\./, "", of)
+    sub(/\..*/, "", of)
+    if (of == "std") of = "the kit's"
     file = from
     sub(/.*\./, "", file)
     m = split(list, words, /[ ,]+/)

@@ -1,3 +1,4 @@
+pub mod Clauses
 pub mod Decided
 pub mod Answers
 pub mod Rows

@@ -1,9 +1,11 @@
 // Reads a bench file on standard input and prints a line per job. Proved safe, no more: what it prints is the library's.
+#![tactic(auto)]
+
 ghost use Rattle.std.specs.Prelude.{◌+◌, ◌≤◌, length};
 ghost use Rattle.label.specs.Label.{room};
 
-use libc::{STDIN_FILENO, STDOUT_FILENO};
 use sdi::{Desk, Label, Outcome, OutcomeKind};
+use std::io::{Read, Write};
 
 // Lines wait in an output of so many bytes, and are written out together.
 const OUTPUT: usize = 4096;
@@ -33,10 +35,10 @@ fn is_refused(kind: OutcomeKind) -> bool {
 }
 
 // Writes the first bytes; answers whether they were written.
-fn write_first(bytes: &[u8], count: usize) -> bool
+fn write_first<W: Write>(to: &mut W, bytes: &[u8], count: usize) -> bool
     requires { count ≤ length bytes.now }
 {
-    io::write_all(STDOUT_FILENO, &bytes[..count])
+    to.write_all(&bytes[..count]).is_ok()
 }
 
 // Copies a line to a place that has its room.
@@ -53,7 +55,7 @@ fn put(line: Label, out: &mut [u8; OUTPUT], at: usize)
 }
 
 // Lays the line of an outcome after those before it, and writes all out where less than the room of a line is left.
-fn lay(outcome: Outcome, out: &mut [u8; OUTPUT], laid: usize) -> Laid
+fn lay<W: Write>(to: &mut W, outcome: Outcome, out: &mut [u8; OUTPUT], laid: usize) -> Laid
     requires { laid + room ≤ 4096 }
     ensures { result.bytes + room ≤ 4096 }
 {
@@ -68,12 +70,13 @@ fn lay(outcome: Outcome, out: &mut [u8; OUTPUT], laid: usize) -> Laid
     }
     Laid {
         bytes: 0,
-        open: write_first(out, end),
+        open: write_first(to, out, end),
     }
 }
 
 // Serves bytes up to the end of a job.
-fn serve_job(
+fn serve_job<W: Write>(
+    to: &mut W,
     desk: Desk,
     bytes: &[u8],
     y: &mut [u16],
@@ -88,7 +91,7 @@ fn serve_job(
     let desk = taken.desk;
     let outcome = taken.outcome;
     let kind = outcome.kind;
-    let lines = lay(outcome, out, laid);
+    let lines = lay(to, outcome, out, laid);
     Served {
         bytes: taken.taken,
         laid: lines.bytes,
@@ -99,12 +102,19 @@ fn serve_job(
 
 // Serves the bytes that one read brought, job after job, and writes out their lines: none waits while the program waits for input. Left early, it has
 // not served all bytes.
-fn serve(desk: Desk, bytes: &[u8], y: &mut [u16], c: &mut [u16], out: &mut [u8; OUTPUT]) -> Served {
+fn serve<W: Write>(
+    to: &mut W,
+    desk: Desk,
+    bytes: &[u8],
+    y: &mut [u16],
+    c: &mut [u16],
+    out: &mut [u8; OUTPUT],
+) -> Served {
     let mut desk = desk;
     let mut at = 0;
     let mut laid = 0;
     while at < bytes.len() {
-        let served = serve_job(desk, &bytes[at..], y, c, out, laid);
+        let served = serve_job(to, desk, &bytes[at..], y, c, out, laid);
         desk = served.desk;
         laid = served.laid;
         if !served.more {
@@ -115,7 +125,7 @@ fn serve(desk: Desk, bytes: &[u8], y: &mut [u16], c: &mut [u16], out: &mut [u8; 
         }
         at += served.bytes;
     }
-    let written = write_first(out, laid);
+    let written = write_first(to, out, laid);
     Served {
         bytes: at,
         laid: 0,
@@ -124,37 +134,56 @@ fn serve(desk: Desk, bytes: &[u8], y: &mut [u16], c: &mut [u16], out: &mut [u8; 
     }
 }
 
-// Reads to the end of the input; a read that fails is the end. A proved loop has to end, so it counts its turns down from a number that no run uses up.
-fn run(input: &mut [u8], y: &mut [u16], c: &mut [u16], out: &mut [u8; OUTPUT]) -> Desk {
+// How many bytes one read brought; a read that fails is the end.
+fn read_some<R: Read>(from: &mut R, input: &mut [u8]) -> usize
+    ensures { result ≤ length input.new }
+{
+    from.read(input).unwrap_or(0)
+}
+
+// Reads to the end of the input. A proved loop has to end, so it counts its turns to a number that no run uses up.
+fn run<R: Read, W: Write>(
+    from: &mut R,
+    to: &mut W,
+    input: &mut [u8],
+    y: &mut [u16],
+    c: &mut [u16],
+    out: &mut [u8; OUTPUT],
+) -> Desk {
     let mut desk = Desk::fresh();
-    let mut turns = u64::MAX;
-    while turns > 0 {
-        let got = libc::read(STDIN_FILENO, input);
-        let n = io::count(got, input);
+    for _ in 0..u64::MAX {
+        let n = read_some(from, input);
         if n == 0 {
             return desk;
         }
-        let served = serve(desk, &input[..n], y, c, out);
+        let served = serve(to, desk, &input[..n], y, c, out);
         desk = served.desk;
         if !served.more {
             return desk;
         }
-        turns -= 1;
     }
     desk
 }
 
 // Prints the line of the last outcome.
-fn print_last(desk: Desk, out: &mut [u8; OUTPUT]) {
-    let laid = lay(desk.finish(), out, 0);
-    write_first(out, laid.bytes);
+fn print_last<W: Write>(to: &mut W, desk: Desk, out: &mut [u8; OUTPUT]) {
+    let laid = lay(to, desk.finish(), out, 0);
+    write_first(to, out, laid.bytes);
 }
 
-fn main() {
+fn main(rt: HostRuntime) {
     let mut input = [0u8; 65536];
     let mut y = [0u16; Desk::LONGEST];
     let mut c = [0u16; Desk::LONGEST];
     let mut out = [0u8; OUTPUT];
-    let desk = run(&mut input, &mut y, &mut c, &mut out);
-    print_last(desk, &mut out);
+    let mut to = rt.stdout();
+    let desk = run(
+        &mut rt.stdin(),
+        &mut to,
+        &mut input,
+        &mut y,
+        &mut c,
+        &mut out,
+    );
+    print_last(&mut to, desk, &mut out);
 }

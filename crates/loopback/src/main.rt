@@ -1,7 +1,9 @@
 // A frame built, sent and judged, through the face of the library alone: rows with a packet in each are built, scrambled as a cable
 // carries them, and fed to a session; then the same with one bit of the cable struck. Proved safe, no more; what it prints is stored.
-use libc::STDOUT_FILENO;
+#![tactic(auto)]
+
 use sdi::{Carry, Ended, Session, Verdict};
+use std::io::{self, BufWriter, Write};
 
 // Raster 1: its T, A and N.
 const RASTER: u32 = 1;
@@ -83,46 +85,48 @@ fn judged(struck: u32, y: &mut [u16], c: &mut [u16]) -> Ended {
     session.end()
 }
 
-fn judge(struck: u32) {
+fn judge<W: Write>(to: &mut W, struck: u32) -> io::Result<()> {
     let mut y = [0u16; TOTAL];
     let mut c = [0u16; TOTAL];
-    print(judged(struck, &mut y, &mut c));
+    print(to, judged(struck, &mut y, &mut c))
 }
 
-fn verdict_words(verdict: Verdict) {
+fn verdict_words<W: Write>(to: &mut W, verdict: Verdict) -> io::Result<()> {
     match verdict {
-        Verdict::Refused => text(b"refused"),
-        Verdict::NoSignal => text(b"NO SIGNAL"),
-        Verdict::Fail => text(b"FAIL"),
-        Verdict::Short => text(b"SHORT"),
-        Verdict::Pass => text(b"PASS"),
+        Verdict::Refused => text(to, b"refused"),
+        Verdict::NoSignal => text(to, b"NO SIGNAL"),
+        Verdict::Fail => text(to, b"FAIL"),
+        Verdict::Short => text(to, b"SHORT"),
+        Verdict::Pass => text(to, b"PASS"),
     }
 }
 
-fn text(bytes: &[u8]) {
-    io::write_all(STDOUT_FILENO, bytes);
+fn text<W: Write>(to: &mut W, bytes: &[u8]) -> io::Result<()> {
+    to.write_all(bytes)
 }
 
-fn number(n: u32) {
-    io::print_decimal(STDOUT_FILENO, n as u64);
+fn number<W: Write>(to: &mut W, n: u32) -> io::Result<()> {
+    write!(to, "{n}")
 }
 
-fn print(ended: Ended) {
-    text(b": raster ");
-    number(ended.raster);
-    text(b" rows ");
-    number(ended.counts.rows);
-    text(b" faults ");
-    number(ended.counts.faults);
-    text(b" ");
+fn print<W: Write>(to: &mut W, ended: Ended) -> io::Result<()> {
+    text(to, b": raster ")?;
+    number(to, ended.raster)?;
+    text(to, b" rows ")?;
+    number(to, ended.counts.rows)?;
+    text(to, b" faults ")?;
+    number(to, ended.counts.faults)?;
+    text(to, b" ")?;
     let verdict = ended.verdict;
-    verdict_words(verdict);
-    text(b"\n");
+    verdict_words(to, verdict)?;
+    text(to, b"\n")
 }
 
-fn main() {
-    text(b"as it was sent");
-    judge(ROWS);
-    text(b"one bit struck");
-    judge(400);
+fn main(rt: HostRuntime) -> io::Result<()> {
+    let mut to = BufWriter::new(rt.alloc(), rt.stdout())?;
+    text(&mut to, b"as it was sent")?;
+    judge(&mut to, ROWS)?;
+    text(&mut to, b"one bit struck")?;
+    judge(&mut to, 400)?;
+    to.flush()
 }

@@ -1,6 +1,8 @@
 // Answers requests, one a line (docs/REQUESTS.md). Proved safe, no more.
-use libc::STDIN_FILENO;
+#![tactic(auto)]
+
 use probe_answers::numbers::{arg, end_line};
+use std::io::{self, BufWriter, Read, Write};
 
 // What a hexadecimal digit stands for.
 fn digit_of(byte: u8) -> u32 {
@@ -27,57 +29,66 @@ fn begin(args: &mut [u32], at: usize) -> usize {
 }
 
 // Answers the request whose numbers these are: by the crate that its number names, or by an empty line.
-fn answer(args: &[u32]) {
+fn answer<W: Write>(to: &mut W, args: &[u32]) -> io::Result<()> {
     match arg(args, 0) {
-        0x10..=0x43 => probe_words::answer(args),
-        0x50..=0x62 => probe_rows::answer(args),
-        0x70..=0x73 => probe_sessions::answer(args),
-        0x81..=0x83 => probe_desks::answer(args),
+        0x10..=0x43 => probe_words::answer(to, args)?,
+        0x50..=0x62 => probe_rows::answer(to, args)?,
+        0x70..=0x73 => probe_sessions::answer(to, args)?,
+        0x81..=0x83 => probe_desks::answer(to, args)?,
         _ => {}
     }
-    end_line();
+    end_line(to)
 }
 
 // A byte of a line whose number at a place is being read; answers the place where the next byte goes on.
-fn take(at: usize, byte: u8, args: &mut [u32]) -> usize {
+fn take<W: Write>(to: &mut W, at: usize, byte: u8, args: &mut [u32]) -> io::Result<usize> {
     if byte == b'\n' {
-        answer(args);
-        return begin(args, 0);
+        answer(to, args)?;
+        return Ok(begin(args, 0));
     }
     if byte == b' ' {
-        return begin(args, at % 65536 + 1);
+        return Ok(begin(args, at % 65536 + 1));
     }
     extend(args, at, digit_of(byte));
-    at
+    Ok(at)
 }
 
-fn take_all(from: usize, bytes: &[u8], args: &mut [u32]) -> usize {
+fn take_all<W: Write>(
+    to: &mut W,
+    from: usize,
+    bytes: &[u8],
+    args: &mut [u32],
+) -> io::Result<usize> {
     let mut at = from;
-    let mut i = 0;
-    while i < bytes.len() {
-        at = take(at, bytes[i], args);
-        i += 1;
+    for byte in bytes {
+        at = take(to, at, *byte, args)?;
     }
-    at
+    Ok(at)
 }
 
-// A proved loop has to end, so it counts its turns down from a number that no run uses up.
-fn run(input: &mut [u8], args: &mut [u32]) {
+// Answers the lines that each read brought, and writes the answers out: none waits while the program waits for input. A proved loop has to end, so it
+// counts its turns to a number that no run uses up.
+fn run<R: Read, W: Write>(
+    from: &mut R,
+    to: &mut W,
+    input: &mut [u8],
+    args: &mut [u32],
+) -> io::Result<()> {
     let mut at = 0;
-    let mut turns = u64::MAX;
-    while turns > 0 {
-        let got = libc::read(STDIN_FILENO, input);
-        let n = io::count(got, input);
+    for _ in 0..u64::MAX {
+        let n = from.read(input)?;
         if n == 0 {
-            return;
+            return Ok(());
         }
-        at = take_all(at, &input[..n], args);
-        turns -= 1;
+        at = take_all(to, at, &input[..n], args)?;
+        to.flush()?;
     }
+    Ok(())
 }
 
-fn main() {
+fn main(rt: HostRuntime) -> io::Result<()> {
     let mut input = [0u8; 65536];
     let mut args = [0u32; 20000];
-    run(&mut input, &mut args);
+    let mut to = BufWriter::new(rt.alloc(), rt.stdout())?;
+    run(&mut rt.stdin(), &mut to, &mut input, &mut args)
 }

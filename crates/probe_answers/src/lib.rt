@@ -1,3 +1,5 @@
 // What the crates under `probe` share: the numbers and rows of a request and of an answer (docs/REQUESTS.md). Proved safe, no more.
+#![tactic(auto)]
+
 pub mod numbers;
 pub mod runs;

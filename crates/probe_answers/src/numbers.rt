@@ -1,5 +1,5 @@
 // Numbers: read from a request, printed into an answer.
-use libc::STDOUT_FILENO;
+use std::io::{self, Write};
 
 // The number at a place of a request, 0 where there is none.
 pub fn arg(args: &[u32], at: usize) -> u32 {
@@ -26,27 +26,26 @@ pub fn flag(yes: bool) -> u64 {
 }
 
 // The first number of a line.
-pub fn first(n: u64) {
-    io::print_hex(STDOUT_FILENO, n, 1);
+pub fn first<W: Write>(to: &mut W, n: u64) -> io::Result<()> {
+    write!(to, "{n:x}")
 }
 
 // A number after the first.
-pub fn then(n: u64) {
-    io::write_all(STDOUT_FILENO, b" ");
-    io::print_hex(STDOUT_FILENO, n, 1);
+pub fn then<W: Write>(to: &mut W, n: u64) -> io::Result<()> {
+    write!(to, " {n:x}")
 }
 
 // Two and three numbers, from the first.
-pub fn two(a: u64, b: u64) {
-    first(a);
-    then(b);
+pub fn two<W: Write>(to: &mut W, a: u64, b: u64) -> io::Result<()> {
+    first(to, a)?;
+    then(to, b)
 }
 
-pub fn three(a: u64, b: u64, c: u64) {
-    two(a, b);
-    then(c);
+pub fn three<W: Write>(to: &mut W, a: u64, b: u64, c: u64) -> io::Result<()> {
+    two(to, a, b)?;
+    then(to, c)
 }
 
-pub fn end_line() {
-    io::write_all(STDOUT_FILENO, b"\n");
+pub fn end_line<W: Write>(to: &mut W) -> io::Result<()> {
+    writeln!(to)
 }

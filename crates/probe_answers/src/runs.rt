@@ -2,6 +2,7 @@
 ghost use Rattle.std.specs.Prelude.{◌≤◌, ◌<◌, length};
 
 use crate::numbers::{arg, then, word};
+use std::io::{self, Write};
 
 // Where a request goes on after a list, and how many words the list has.
 #[derive(Clone, Copy)]
@@ -67,24 +68,25 @@ fn run_count(words: &[u16]) -> u64 {
     count
 }
 
-fn then_run(times: usize, w: u16) {
-    then(times as u64);
-    then(w as u64);
+fn then_run<W: Write>(to: &mut W, times: usize, w: u16) -> io::Result<()> {
+    then(to, times as u64)?;
+    then(to, w as u64)
 }
 
 // A list by its runs.
-pub fn then_runs(words: &[u16]) {
-    then(run_count(words));
+pub fn then_runs<W: Write>(to: &mut W, words: &[u16]) -> io::Result<()> {
+    then(to, run_count(words))?;
     let mut i = 0;
     while i < words.len() {
         let end = run_end(words, i);
-        then_run(end - i, words[i]);
+        then_run(to, end - i, words[i])?;
         i = end;
     }
+    Ok(())
 }
 
 // Both rows of a request.
-pub fn then_rows(y: &[u16], c: &[u16]) {
-    then_runs(y);
-    then_runs(c);
+pub fn then_rows<W: Write>(to: &mut W, y: &[u16], c: &[u16]) -> io::Result<()> {
+    then_runs(to, y)?;
+    then_runs(to, c)
 }

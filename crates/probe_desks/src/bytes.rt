@@ -2,6 +2,7 @@
 ghost use Rattle.std.specs.Prelude.{◌≤◌, length};
 
 use probe_answers::numbers::{arg, byte, then};
+use std::io::{self, Write};
 
 // Copies the list of bytes at a place, which its count precedes, and answers how many bytes there are.
 pub fn take_bytes(args: &[u32], at: usize, bytes: &mut [u8]) -> usize
@@ -36,13 +37,14 @@ fn wide(byte: u8) -> u64 {
 }
 
 // So many bytes, or as many as there are, after the first number of a line.
-pub fn then_bytes(bytes: &[u8], count: usize) {
+pub fn then_bytes<W: Write>(to: &mut W, bytes: &[u8], count: usize) -> io::Result<()> {
     let mut i = 0;
     while i < bytes.len() {
         if i == count {
-            return;
+            return Ok(());
         }
-        then(wide(bytes[i]));
+        then(to, wide(bytes[i]))?;
         i += 1;
     }
+    Ok(())
 }

@@ -3,37 +3,38 @@ use crate::bytes::{take_bytes, then_bytes};
 use probe_answers::numbers::{arg, byte, flag, then};
 use probe_sessions::fields::{counts_at, then_counts, verdict_number};
 use sdi::{Job, Outcome, OutcomeKind, Tag, Verdict};
+use std::io::{self, Write};
 
 // An outcome, after the first number of a line.
-pub fn then_outcome(outcome: Outcome) {
+pub fn then_outcome<W: Write>(to: &mut W, outcome: Outcome) -> io::Result<()> {
     let kind = outcome.kind;
     let job = outcome.job;
-    then_kind(kind);
-    then_tag(job.tag);
-    then(job.raster as u64);
-    then(flag(job.wipe));
-    then_counts(job.counts);
+    then_kind(to, kind)?;
+    then_tag(to, job.tag)?;
+    then(to, job.raster as u64)?;
+    then(to, flag(job.wipe))?;
+    then_counts(to, job.counts)?;
     let verdict = job.verdict;
-    then(verdict_number(verdict));
+    then(to, verdict_number(verdict))
 }
 
-fn then_kind(kind: OutcomeKind) {
+fn then_kind<W: Write>(to: &mut W, kind: OutcomeKind) -> io::Result<()> {
     match kind {
-        OutcomeKind::Nothing => then_two(0, 0),
-        OutcomeKind::Done => then_two(1, 0),
-        OutcomeKind::BadFile(number) => then_two(2, number as u64),
+        OutcomeKind::Nothing => then_two(to, 0, 0),
+        OutcomeKind::Done => then_two(to, 1, 0),
+        OutcomeKind::BadFile(number) => then_two(to, 2, number as u64),
     }
 }
 
-fn then_two(a: u64, b: u64) {
-    then(a);
-    then(b);
+fn then_two<W: Write>(to: &mut W, a: u64, b: u64) -> io::Result<()> {
+    then(to, a)?;
+    then(to, b)
 }
 
-fn then_tag(tag: Tag) {
+fn then_tag<W: Write>(to: &mut W, tag: Tag) -> io::Result<()> {
     let bytes = tag.bytes;
-    then(tag.size as u64);
-    then_bytes(&bytes, tag.size as usize);
+    then(to, tag.size as u64)?;
+    then_bytes(to, &bytes, tag.size as usize)
 }
 
 // The outcome that a request has; its tag is a list, and the job's other numbers stand after it.

@@ -5,6 +5,7 @@ use probe_answers::numbers::{arg, first, then};
 use probe_answers::runs::then_rows;
 use probe_sessions::fields::{session_at, then_session};
 use sdi::{Desk, Taken};
+use std::io::{self, Write};
 
 // A desk that has taken the bytes before a place.
 #[derive(Clone, Copy)]
@@ -34,77 +35,96 @@ fn first_told(args: &[u32]) -> usize {
     0
 }
 
-fn tell_refusal(begins: bool, refusal: u64) {
+fn tell_refusal<W: Write>(to: &mut W, begins: bool, refusal: u64) -> io::Result<()> {
     if begins {
-        first(refusal);
-        return;
+        return first(to, refusal);
     }
-    then(refusal);
+    then(to, refusal)
 }
 
-fn tell(args: &[u32], number: usize, taken: Taken) {
+fn tell<W: Write>(to: &mut W, args: &[u32], number: usize, taken: Taken) -> io::Result<()> {
     let start = first_told(args);
     if number < start {
-        return;
+        return Ok(());
     }
-    tell_refusal(number == start, taken.refusal as u64);
-    then(taken.taken as u64);
+    tell_refusal(to, number == start, taken.refusal as u64)?;
+    then(to, taken.taken as u64)?;
     let outcome = taken.outcome;
-    then_outcome(outcome);
+    then_outcome(to, outcome)
 }
 
 // The take of this number.
-fn take(
+fn take<W: Write>(
+    to: &mut W,
     args: &[u32],
     number: usize,
     stand: Stand,
     bytes: &[u8],
     y: &mut [u16],
     c: &mut [u16],
-) -> Stand {
+) -> io::Result<Stand> {
     let at = stand.at;
     let taken = stand
         .desk
         .take(bytes_from(bytes, at, lent(args, number, bytes)), y, c);
-    tell(args, number, taken);
+    tell(to, args, number, taken)?;
     let desk = taken.desk;
-    Stand {
+    Ok(Stand {
         desk,
         at: at % 65536 + taken.taken % 65536,
-    }
+    })
 }
 
 // The takes before the last.
-fn takes(args: &[u32], bytes: &[u8], y: &mut [u16], c: &mut [u16]) -> Stand {
+fn takes<W: Write>(
+    to: &mut W,
+    args: &[u32],
+    bytes: &[u8],
+    y: &mut [u16],
+    c: &mut [u16],
+) -> io::Result<Stand> {
     let desk = Desk::fresh();
     let mut stand = Stand { desk, at: 0 };
     let count = last_take(args);
     let mut k = 0;
     while k < count {
-        stand = take(args, k, stand, bytes, y, c);
+        stand = take(to, args, k, stand, bytes, y, c)?;
         k += 1;
     }
-    stand
+    Ok(stand)
 }
 
 // All takes, and the end of the input, 81.
-pub fn file(args: &[u32], bytes: &[u8], y: &mut [u16], c: &mut [u16]) {
-    let stand = takes(args, bytes, y, c);
-    let last = take(args, last_take(args), stand, bytes, y, c);
-    then_outcome(last.desk.finish());
-    then_rows(y, c);
+pub fn file<W: Write>(
+    to: &mut W,
+    args: &[u32],
+    bytes: &[u8],
+    y: &mut [u16],
+    c: &mut [u16],
+) -> io::Result<()> {
+    let stand = takes(to, args, bytes, y, c)?;
+    let last = take(to, args, last_take(args), stand, bytes, y, c)?;
+    then_outcome(to, last.desk.finish())?;
+    then_rows(to, y, c)
 }
 
 // The takes before the last, lent rows of their own: so a desk comes to its words also where the rows of the last are too short.
-fn takes_apart(args: &[u32], bytes: &[u8]) -> Stand {
+fn takes_apart<W: Write>(to: &mut W, args: &[u32], bytes: &[u8]) -> io::Result<Stand> {
     let mut y = [0u16; Desk::LONGEST];
     let mut c = [0u16; Desk::LONGEST];
-    takes(args, bytes, &mut y, &mut c)
+    takes(to, args, bytes, &mut y, &mut c)
 }
 
 // The last take of a desk that is given the session at this place of the request, 82.
-pub fn with_session(args: &[u32], at: usize, bytes: &[u8], y: &mut [u16], c: &mut [u16]) {
-    let before = takes_apart(args, bytes);
+pub fn with_session<W: Write>(
+    to: &mut W,
+    args: &[u32],
+    at: usize,
+    bytes: &[u8],
+    y: &mut [u16],
+    c: &mut [u16],
+) -> io::Result<()> {
+    let before = takes_apart(to, args, bytes)?;
     let reader = before.desk.reader;
     let session = session_at(args, at);
     let desk = Desk { reader, session };
@@ -112,7 +132,7 @@ pub fn with_session(args: &[u32], at: usize, bytes: &[u8], y: &mut [u16], c: &mu
         desk,
         at: before.at,
     };
-    let last = take(args, last_take(args), stand, bytes, y, c);
-    then_session(last.desk.session);
-    then_rows(y, c);
+    let last = take(to, args, last_take(args), stand, bytes, y, c)?;
+    then_session(to, last.desk.session)?;
+    then_rows(to, y, c)
 }

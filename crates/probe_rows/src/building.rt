@@ -2,18 +2,25 @@
 use crate::carries::{carry_at, then_carry};
 use probe_answers::numbers::{arg, first};
 use probe_answers::runs::{take_runs, then_rows};
+use std::io::{self, Write};
 
-pub fn build(args: &[u32]) {
+pub fn build<W: Write>(to: &mut W, args: &[u32]) -> io::Result<()> {
     let mut y_active = [0u16; 4000];
     let mut c_active = [0u16; 4000];
     let a = take_runs(args, 6, &mut y_active);
     let b = take_runs(args, a.next, &mut c_active);
     let m = a.count;
     let n = b.count;
-    build_blanking(args, b.next, &y_active[0..m], &c_active[0..n]);
+    build_blanking(to, args, b.next, &y_active[0..m], &c_active[0..n])
 }
 
-fn build_blanking(args: &[u32], at: usize, y_active: &[u16], c_active: &[u16]) {
+fn build_blanking<W: Write>(
+    to: &mut W,
+    args: &[u32],
+    at: usize,
+    y_active: &[u16],
+    c_active: &[u16],
+) -> io::Result<()> {
     let mut y_blanking = [0u16; 4000];
     let mut c_blanking = [0u16; 4000];
     let a = take_runs(args, at, &mut y_blanking);
@@ -21,23 +28,25 @@ fn build_blanking(args: &[u32], at: usize, y_active: &[u16], c_active: &[u16]) {
     let m = a.count;
     let n = b.count;
     build_rows(
+        to,
         args,
         b.next,
         y_active,
         c_active,
         &y_blanking[0..m],
         &c_blanking[0..n],
-    );
+    )
 }
 
-fn build_rows(
+fn build_rows<W: Write>(
+    to: &mut W,
     args: &[u32],
     at: usize,
     y_active: &[u16],
     c_active: &[u16],
     y_blanking: &[u16],
     c_blanking: &[u16],
-) {
+) -> io::Result<()> {
     let mut y = [0u16; 20000];
     let mut c = [0u16; 20000];
     let a = take_runs(args, at, &mut y);
@@ -45,6 +54,7 @@ fn build_rows(
     let m = a.count;
     let n = b.count;
     built(
+        to,
         args,
         y_active,
         c_active,
@@ -52,10 +62,11 @@ fn build_rows(
         c_blanking,
         &mut y[0..m],
         &mut c[0..n],
-    );
+    )
 }
 
-fn built(
+fn built<W: Write>(
+    to: &mut W,
     args: &[u32],
     y_active: &[u16],
     c_active: &[u16],
@@ -63,7 +74,7 @@ fn built(
     c_blanking: &[u16],
     y: &mut [u16],
     c: &mut [u16],
-) {
+) -> io::Result<()> {
     let carry = carry_at(args, 3);
     let made = sdi::build_row(
         arg(args, 1),
@@ -76,8 +87,8 @@ fn built(
         y,
         c,
     );
-    first(made.refusal as u64);
+    first(to, made.refusal as u64)?;
     let carry = made.carry;
-    then_carry(carry);
-    then_rows(y, c);
+    then_carry(to, carry)?;
+    then_rows(to, y, c)
 }

@@ -2,30 +2,40 @@
 use probe_answers::numbers::{arg, byte, first, two};
 use probe_answers::runs::{take_runs, then_runs};
 use sdi::Channel;
+use std::io::{self, Write};
 
-pub fn build(args: &[u32]) {
+pub fn build<W: Write>(to: &mut W, args: &[u32]) -> io::Result<()> {
     let mut user = [0u16; 20000];
     let mut out = [0u16; 20000];
     let taken = take_runs(args, 3, &mut user);
     let n = taken.count;
     let m = take_runs(args, taken.next, &mut out).count;
     built(
+        to,
         byte(arg(args, 1)),
         byte(arg(args, 2)),
         &user[0..n],
         &mut out[0..m],
-    );
+    )
 }
 
-fn built(did: u8, sdid: u8, user: &[u16], out: &mut [u16]) {
+fn built<W: Write>(to: &mut W, did: u8, sdid: u8, user: &[u16], out: &mut [u16]) -> io::Result<()> {
     let made = sdi::build_packet(did, sdid, user, out);
-    two(made.refusal as u64, made.words as u64);
-    then_runs(out);
+    two(to, made.refusal as u64, made.words as u64)?;
+    then_runs(to, out)
 }
 
-pub fn find<'a>(raster: u32, line: u32, did: u8, sdid: u8, y: &'a [u16], c: &'a [u16]) {
-    first(sdi::find_refusal(raster, line, did, sdid, y, c) as u64);
-    then_runs(sdi::find_packet(raster, line, did, sdid, y, c));
+pub fn find<W: Write>(
+    to: &mut W,
+    raster: u32,
+    line: u32,
+    did: u8,
+    sdid: u8,
+    y: &[u16],
+    c: &[u16],
+) -> io::Result<()> {
+    first(to, sdi::find_refusal(raster, line, did, sdid, y, c) as u64)?;
+    then_runs(to, sdi::find_packet(raster, line, did, sdid, y, c))
 }
 
 fn channel_of(n: u32) -> Channel {
@@ -36,21 +46,36 @@ fn channel_of(n: u32) -> Channel {
 }
 
 // The output stands at this place.
-pub fn extract(args: &[u32], at: usize, y: &[u16], c: &[u16]) {
+pub fn extract<W: Write>(
+    to: &mut W,
+    args: &[u32],
+    at: usize,
+    y: &[u16],
+    c: &[u16],
+) -> io::Result<()> {
     let mut out = [0u16; 20000];
     let count = take_runs(args, at, &mut out).count;
     extracted(
+        to,
         arg(args, 1),
         arg(args, 2),
         channel_of(arg(args, 3)),
         y,
         c,
         &mut out[0..count],
-    );
+    )
 }
 
-fn extracted(raster: u32, line: u32, channel: Channel, y: &[u16], c: &[u16], out: &mut [u16]) {
+fn extracted<W: Write>(
+    to: &mut W,
+    raster: u32,
+    line: u32,
+    channel: Channel,
+    y: &[u16],
+    c: &[u16],
+    out: &mut [u16],
+) -> io::Result<()> {
     let got = sdi::extract_packets(raster, line, channel, y, c, out);
-    two(got.refusal as u64, got.words as u64);
-    then_runs(out);
+    two(to, got.refusal as u64, got.words as u64)?;
+    then_runs(to, out)
 }

@@ -2,6 +2,7 @@
 use probe_answers::numbers::{arg, byte, flag, then, word};
 use probe_rows::carries::{carry_at, then_carry};
 use sdi::{Counts, Place, Session, Sight, State, Track, Verdict, Window};
+use std::io::{self, Write};
 
 // The session that stands at a place of a request.
 pub fn session_at(args: &[u32], at: usize) -> Session {
@@ -57,35 +58,35 @@ pub fn counts_at(args: &[u32], at: usize) -> Counts {
 }
 
 // A session, after the first number of a line.
-pub fn then_session(session: Session) {
-    then(flag(session.running));
-    then(session.raster as u64);
-    then(session.history as u64);
+pub fn then_session<W: Write>(to: &mut W, session: Session) -> io::Result<()> {
+    then(to, flag(session.running))?;
+    then(to, session.raster as u64)?;
+    then(to, session.history as u64)?;
     let state = session.state;
-    then_sight(state.sight);
+    then_sight(to, state.sight)?;
     let track = state.track;
-    then_track(track);
-    then_counts(state.counts);
+    then_track(to, track)?;
+    then_counts(to, state.counts)
 }
 
-fn then_sight(sight: Sight) {
-    then(sight.window.last % 0x100000000);
-    then(sight.window.last / 0x100000000);
-    then(sight.window.ahead as u64);
-    then(flag(sight.window.seen));
-    then(sight.place.pairs as u64);
-    then(sight.place.bit as u64);
+fn then_sight<W: Write>(to: &mut W, sight: Sight) -> io::Result<()> {
+    then(to, sight.window.last % 0x100000000)?;
+    then(to, sight.window.last / 0x100000000)?;
+    then(to, sight.window.ahead as u64)?;
+    then(to, flag(sight.window.seen))?;
+    then(to, sight.place.pairs as u64)?;
+    then(to, sight.place.bit as u64)
 }
 
-fn then_track(track: Track) {
-    then(track.line as u64);
+fn then_track<W: Write>(to: &mut W, track: Track) -> io::Result<()> {
+    then(to, track.line as u64)?;
     let carry = track.carry;
-    then_carry(carry);
+    then_carry(to, carry)
 }
 
-pub fn then_counts(counts: Counts) {
-    then(counts.rows as u64);
-    then(counts.faults as u64);
+pub fn then_counts<W: Write>(to: &mut W, counts: Counts) -> io::Result<()> {
+    then(to, counts.rows as u64)?;
+    then(to, counts.faults as u64)
 }
 
 pub fn verdict_number(verdict: Verdict) -> u64 {

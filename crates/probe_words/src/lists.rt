@@ -2,6 +2,7 @@
 ghost use Rattle.std.specs.Prelude.{◌≤◌, length};
 
 use probe_answers::numbers::{arg, then, word};
+use std::io::{self, Write};
 
 // Copies the list at a place of a request, and answers how many words there are.
 pub fn take_words(args: &[u32], at: usize, words: &mut [u16]) -> usize
@@ -24,11 +25,12 @@ fn wide(word: u16) -> u64 {
 }
 
 // A list, after the first number of a line.
-pub fn then_list(words: &[u16]) {
-    then(words.len() as u64);
+pub fn then_list<W: Write>(to: &mut W, words: &[u16]) -> io::Result<()> {
+    then(to, words.len() as u64)?;
     let mut i = 0;
     while i < words.len() {
-        then(wide(words[i]));
+        then(to, wide(words[i]))?;
         i += 1;
     }
+    Ok(())
 }

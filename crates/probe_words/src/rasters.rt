@@ -1,21 +1,22 @@
 // The raster table, 10 to 12.
 use probe_answers::numbers::{first, flag, then, three};
 use sdi::{Kind, Raster};
+use std::io::{self, Write};
 
-pub fn raster_of(code: u32) {
+pub fn raster_of<W: Write>(to: &mut W, code: u32) -> io::Result<()> {
     let looked = sdi::raster_of(code);
-    first(looked.refusal as u64);
-    then_raster(looked.raster);
+    first(to, looked.refusal as u64)?;
+    then_raster(to, looked.raster)
 }
 
-fn then_raster(raster: Raster) {
+fn then_raster<W: Write>(to: &mut W, raster: Raster) -> io::Result<()> {
     let layout = raster.layout;
     let kind = raster.kind;
-    then(raster.code as u64);
-    then(layout.total as u64);
-    then(layout.active as u64);
-    then(raster.rows as u64);
-    then(kind_number(kind));
+    then(to, raster.code as u64)?;
+    then(to, layout.total as u64)?;
+    then(to, layout.active as u64)?;
+    then(to, raster.rows as u64)?;
+    then(to, kind_number(kind))
 }
 
 fn kind_number(kind: Kind) -> u64 {
@@ -32,11 +33,14 @@ fn kind_of(n: u32) -> Kind {
     Kind::TwoFields
 }
 
-pub fn name(total: u32, active: u32, rows: u32, kind: u32) {
-    first(sdi::name_raster(total, active, rows, kind_of(kind)) as u64);
+pub fn name<W: Write>(to: &mut W, total: u32, active: u32, rows: u32, kind: u32) -> io::Result<()> {
+    first(
+        to,
+        sdi::name_raster(total, active, rows, kind_of(kind)) as u64,
+    )
 }
 
-pub fn line_facts(raster: u32, line: u32) {
+pub fn line_facts<W: Write>(to: &mut W, raster: u32, line: u32) -> io::Result<()> {
     let facts = sdi::line_facts(raster, line);
-    three(facts.refusal as u64, flag(facts.v), flag(facts.f));
+    three(to, facts.refusal as u64, flag(facts.v), flag(facts.f))
 }

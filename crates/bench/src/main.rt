@@ -47,11 +47,7 @@ fn put(line: Label, out: &mut [u8; OUTPUT], at: usize)
 {
     let bytes = line.bytes;
     let size = line.size;
-    let mut i = 0;
-    while i < size {
-        out[at + i] = bytes[i];
-        i += 1;
-    }
+    out[at..at + size].copy_from_slice(&bytes[..size]);
 }
 
 // Lays the line of an outcome after those before it, and writes all out where less than the room of a line is left.

@@ -30,13 +30,11 @@ pub fn take_runs(args: &[u32], at: usize, words: &mut [u16]) -> Taken
     let runs = arg(args, at) as usize % 65536;
     let mut next = at % 65536 + 1;
     let mut count = 0;
-    let mut k = 0;
-    while k < runs {
+    for _ in 0..runs {
         let times = arg(args, next) as usize;
         let w = word(arg(args, next + 1));
         count = lay_run(words, count, times, w);
         next += 2;
-        k += 1;
     }
     Taken { next, count }
 }
@@ -47,14 +45,12 @@ fn run_end(words: &[u16], start: usize) -> usize
     ensures after { start < result }
     ensures inside { result ≤ length words.now }
 {
-    let mut i = start + 1;
-    while i < words.len() {
+    for i in start + 1..words.len() {
         if words[i] != words[start] {
             return i;
         }
-        i += 1;
     }
-    i
+    words.len()
 }
 
 // How many runs a list has.

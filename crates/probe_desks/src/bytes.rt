@@ -9,15 +9,13 @@ pub fn take_bytes(args: &[u32], at: usize, bytes: &mut [u8]) -> usize
     ensures { result ≤ length bytes.new }
 {
     let count = arg(args, at) as usize;
-    let mut n = 0;
-    while n < bytes.len() {
+    for n in 0..bytes.len() {
         if n == count {
             return n;
         }
         bytes[n] = byte(arg(args, at % 65536 + 1 + n % 65536));
-        n += 1;
     }
-    n
+    bytes.len()
 }
 
 // The bytes from a place on, as many as asked or as there are.
@@ -38,13 +36,8 @@ fn wide(byte: u8) -> u64 {
 
 // So many bytes, or as many as there are, after the first number of a line.
 pub fn then_bytes<W: Write>(to: &mut W, bytes: &[u8], count: usize) -> io::Result<()> {
-    let mut i = 0;
-    while i < bytes.len() {
-        if i == count {
-            return Ok(());
-        }
-        then(to, wide(bytes[i]))?;
-        i += 1;
+    for b in bytes.iter().take(count) {
+        then(to, wide(*b))?;
     }
     Ok(())
 }

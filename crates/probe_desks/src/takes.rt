@@ -85,11 +85,8 @@ fn takes<W: Write>(
 ) -> io::Result<Stand> {
     let desk = Desk::fresh();
     let mut stand = Stand { desk, at: 0 };
-    let count = last_take(args);
-    let mut k = 0;
-    while k < count {
-        stand = take(to, args, k, stand, bytes, y, c)?;
-        k += 1;
+    for number in 0..last_take(args) {
+        stand = take(to, args, number, stand, bytes, y, c)?;
     }
     Ok(stand)
 }

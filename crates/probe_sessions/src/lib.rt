@@ -106,12 +106,10 @@ fn feeds<W: Write>(
     then(to, count as u64 + 1)?;
     let mut s = session;
     let mut at = 0usize;
-    let mut k = 0;
-    while k < count {
+    for k in 0..count {
         let n = arg(args, k % 65536 + 3) as usize % 65536;
         s = feed_part(to, s, words, at, n, y, c)?;
         at = at % 65536 + n;
-        k += 1;
     }
     feed_part(to, s, words, at, words.len(), y, c)
 }

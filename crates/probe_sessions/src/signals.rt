@@ -10,22 +10,18 @@ fn lay_twos(args: &[u32], at: usize, words: &mut [u16], from: usize) {
     let one = word(arg(args, at % 65536 + 1));
     let two = word(arg(args, at % 65536 + 2));
     let mut place = from;
-    let mut k = 0;
-    while k < times {
+    for _ in 0..times {
         parts::lay(words, place, &[one, two]);
         place = place % 65536 + 2;
-        k += 1;
     }
 }
 
 // Lays the list at a place of a request, which its count precedes, from a place on.
 fn lay_list(args: &[u32], at: usize, words: &mut [u16], from: usize) {
     let count = arg(args, at) as usize;
-    let mut k = 0;
-    while k < count {
+    for k in 0..count {
         let w = word(arg(args, at % 65536 + k % 65536 + 1));
         parts::lay(words, from % 65536 + k % 65536, &[w]);
-        k += 1;
     }
 }
 
@@ -36,12 +32,10 @@ fn take_written(args: &[u32], at: usize, words: &mut [u16]) -> Taken
     let runs = arg(args, at % 65536 + 1) as usize % 65536;
     let mut next = at % 65536 + 2;
     let mut count = 0usize;
-    let mut k = 0;
-    while k < runs {
+    for _ in 0..runs {
         lay_twos(args, next, words, count);
         count = count % 65536 + arg(args, next) as usize % 65536 * 2;
         next = next % 65536 + 3;
-        k += 1;
     }
     lay_list(args, next, words, count);
     let listed = arg(args, next) as usize % 65536;

@@ -9,15 +9,13 @@ pub fn take_words(args: &[u32], at: usize, words: &mut [u16]) -> usize
     ensures { result ≤ length words.new }
 {
     let count = arg(args, at) as usize;
-    let mut n = 0;
-    while n < words.len() {
+    for n in 0..words.len() {
         if n == count {
             return n;
         }
         words[n] = word(arg(args, at % 65536 + 1 + n % 65536));
-        n += 1;
     }
-    n
+    words.len()
 }
 
 fn wide(word: u16) -> u64 {
@@ -27,10 +25,8 @@ fn wide(word: u16) -> u64 {
 // A list, after the first number of a line.
 pub fn then_list<W: Write>(to: &mut W, words: &[u16]) -> io::Result<()> {
     then(to, words.len() as u64)?;
-    let mut i = 0;
-    while i < words.len() {
-        then(to, wide(words[i]))?;
-        i += 1;
+    for w in words {
+        then(to, wide(*w))?;
     }
     Ok(())
 }

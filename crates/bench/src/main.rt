@@ -43,8 +43,7 @@ fn write_first<W: Write>(to: &mut W, bytes: &[u8], count: usize) -> bool
 
 // Copies a line to a place that has its room.
 fn put(line: Label, out: &mut [u8; OUTPUT], at: usize)
-    requires line { line.size ≤ room }
-    requires left { at + room ≤ 4096 }
+    requires { (line.size ≤ room) × (at + room ≤ 4096) }
 {
     let bytes = line.bytes;
     let size = line.size;
@@ -82,8 +81,7 @@ fn serve_job<W: Write>(
     laid: usize,
 ) -> Served
     requires { laid + room ≤ 4096 }
-    ensures served { result.bytes ≤ length bytes.now }
-    ensures left { result.laid + room ≤ 4096 }
+    ensures { (result.bytes ≤ length bytes.now) × (result.laid + room ≤ 4096) }
 {
     let taken = desk.take(bytes, y, c);
     let desk = taken.desk;

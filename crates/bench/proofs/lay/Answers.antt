@@ -11,8 +11,8 @@ size_within t l e = rw e (omega arith)
 pub overflow_add-end : goal.overflow_add-end
 overflow_add-end g c = omega (arith, size_within _ _ c.label_of-line.ensures)
 
-pub put-requires-clause-line : goal.put-requires-clause-line
-put-requires-clause-line g c = size_within _ _ c.label_of-line.ensures
+pub put-requires : goal.put-requires
+put-requires g c = (size_within _ _ c.label_of-line.ensures, omega arith)
 
 pub write_first-requires : goal.write_first-requires
 write_first-requires g c = omega (arith, size_within _ _ c.label_of-line.ensures)

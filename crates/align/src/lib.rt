@@ -1,4 +1,6 @@
 // Finding alignment: the first sync in unscrambled words.
+#![tactic(auto)]
+
 ghost use Rattle.std.specs.Prelude.{◌≡◌, ◌<◌};
 ghost use Rattle.std.proofs.Math.Option.{none, some};
 ghost use Rattle.bits.specs.Choice.{if};

@@ -1,4 +1,6 @@
 // Words and their bits: what all layers share.
+#![tactic(auto)]
+
 ghost use Rattle.std.specs.Prelude.{◌≡◌, set};
 ghost use Rattle.bits.specs.Words.{words10, reserved_code, nine_of};
 

@@ -1,4 +1,6 @@
 // Cable bits: scrambling and unscrambling, a word at a time.
+#![tactic(auto)]
+
 ghost use Rattle.std.specs.Prelude.{◌≡◌, true, ◌/◌, ◌≤◌, ◌<◌, length};
 ghost use Rattle.bits.specs.Bits.{odd, bits, number};
 ghost use Rattle.bits.specs.Words.{words10};

@@ -1,4 +1,6 @@
 // Building a row.
+#![tactic(auto)]
+
 ghost use Rattle.std.specs.Prelude.{◌≡◌, ◌&&◌, [], ◌∷◌, ◌++◌, ◌≤◌, length, take};
 ghost use Rattle.bits.specs.Words.{words10};
 ghost use Rattle.parts.specs.Parts.{laid, laid_unless};

@@ -1,4 +1,6 @@
 // The CRC of a channel: the register's steps, and its two words.
+#![tactic(auto)]
+
 pub mod sheet;
 
 ghost use Rattle.std.specs.Prelude.{◌≡◌};

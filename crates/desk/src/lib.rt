@@ -1,4 +1,6 @@
 // A desk: takes the bytes of a bench file as they arrive, in pieces of any size, and runs a session per job.
+#![tactic(auto)]
+
 ghost use Rattle.std.specs.Prelude.{◌≡◌, ◌<◌, length};
 ghost use Rattle.desk.specs.Desk.{Ahead, AheadAlone, c_after, desk, done, finished, fresh_desk, is_more, is_nothing, jobless, job_of, outcome_of, session_after, standing, taken, taken_c, taken_y, take_refusal, turn, turned, turned_c, turned_y, words_at, y_after};
 

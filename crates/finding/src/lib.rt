@@ -1,4 +1,6 @@
 // The packets of a row: found, and extracted from a channel.
+#![tactic(auto)]
+
 ghost use Rattle.std.specs.Prelude.{◌≡◌, ◌+◌, ◌≤◌, length};
 ghost use Rattle.parts.specs.Parts.{laid, laid_unless};
 ghost use Rattle.scan.specs.Scan.{Packet, packets_of, scan};

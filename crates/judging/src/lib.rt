@@ -1,4 +1,6 @@
 // Judging: what an event means for the row whose words are lent. It writes none of them.
+#![tactic(auto)]
+
 ghost use Rattle.std.specs.Prelude.{◌≡◌, get_or};
 ghost use Rattle.judging.specs.Happening.{completed, dropped, happened, line_after, line_of, quietly};
 

@@ -1,4 +1,6 @@
 // The line that is printed of an outcome.
+#![tactic(auto)]
+
 ghost use Rattle.std.specs.Prelude.{◌≡◌, []};
 ghost use Rattle.tally.specs.Tally.{label};
 ghost use Rattle.label.specs.Label.{bad_file_label, boxed, decimal, job_label, label_of, tag_text};

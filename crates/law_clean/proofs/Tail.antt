@@ -13,7 +13,7 @@ use Rattle.raster.specs.Layout.{sync_of, hd_unit}
 use Rattle.align.specs.Search.{slid}
 use Rattle.recogniser.specs.declared.Event.TheVariants.{Within, Pair}
 use Rattle.recogniser.specs.Sight.{is_sync, ahead_after, window_after}
-use Rattle.recogniser.specs.Event.{event_of, looked, place}
+use Rattle.recogniser.specs.Event.{event_of, looked}
 use Rattle.recogniser.proofs.Windows.{last_of, slid_last_of, is_sync-ends}
 use Rattle.judging.specs.declared.Track.{Track}
 use Rattle.judging.specs.Happening.{happened}

@@ -1,1 +1,2 @@
 // Which number of the refusal table a call answers. There is no code here: specs/ has the conditions of the table, proofs/ the cascades.
+#![tactic(auto)]

@@ -1,4 +1,6 @@
 // Laying: what an event writes into the lent row of one channel.
+#![tactic(auto)]
+
 ghost use Rattle.std.specs.Prelude.{◌≡◌};
 ghost use Rattle.laying.specs.Laying.{eav_laid, laid_by, pair_laid};
 

@@ -3,7 +3,7 @@
 #![tactic(auto)]
 
 use sdi::{Carry, Ended, Session, Verdict};
-use std::io::{self, BufWriter, Write};
+use std::io::{self, Write};
 
 // Raster 1: its T, A and N.
 const RASTER: u32 = 1;
@@ -123,7 +123,7 @@ fn print<W: Write>(to: &mut W, ended: Ended) -> io::Result<()> {
 }
 
 fn main(rt: HostRuntime) -> io::Result<()> {
-    let mut to = BufWriter::new(rt.alloc(), rt.stdout())?;
+    let mut to = rt.stdout();
     text(&mut to, b"as it was sent")?;
     judge(&mut to, ROWS)?;
     text(&mut to, b"one bit struck")?;

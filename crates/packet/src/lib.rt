@@ -1,4 +1,6 @@
 // Ancillary packets, built.
+#![tactic(auto)]
+
 ghost use Rattle.std.specs.Prelude.{◌≡◌, ◌≤◌, length};
 ghost use Rattle.parts.specs.Parts.{laid, laid_unless};
 ghost use Rattle.scan.specs.Packet.{checksum_of};

@@ -1,4 +1,6 @@
 // Parts of slices of words: handed on as they are, compared, laid over others. None of these refuses anything.
+#![tactic(auto)]
+
 ghost use Rattle.std.specs.Prelude.{◌≡◌, ◌%◌, replicate};
 ghost use Rattle.bits.specs.Words.{reserved_code};
 ghost use Rattle.parts.specs.Parts.{any, laid, part, same};

@@ -1,4 +1,6 @@
 // What raster and line say of a row, and the refusal of rows that are read.
+#![tactic(auto)]
+
 ghost use Rattle.std.specs.Prelude.{◌≡◌};
 ghost use Rattle.plan.specs.Plan.{no_plan, plan_of};
 ghost use Rattle.plan.specs.Refusal.{row_refusal};

@@ -2,7 +2,7 @@
 #![tactic(auto)]
 
 use probe_answers::numbers::{arg, end_line};
-use std::io::{self, BufWriter, Read, Write};
+use std::io::{self, Read, Write};
 
 // What a hexadecimal digit stands for.
 fn digit_of(byte: u8) -> u32 {
@@ -89,6 +89,6 @@ fn run<R: Read, W: Write>(
 fn main(rt: HostRuntime) -> io::Result<()> {
     let mut input = [0u8; 65536];
     let mut args = [0u32; 20000];
-    let mut to = BufWriter::new(rt.alloc(), rt.stdout())?;
+    let mut to = rt.stdout();
     run(&mut rt.stdin(), &mut to, &mut input, &mut args)
 }

@@ -1,4 +1,6 @@
 // The eleven rasters: their rows of the table, the layout of a row, V and F of a line.
+#![tactic(auto)]
+
 ghost use Rattle.std.specs.Prelude.{◌≡◌, ◌<◌, get_or};
 ghost use Rattle.raster.specs.Table.{fits, highest, looked_up, meant, name_of, no_entry, kind_number, table};
 ghost use Rattle.raster.specs.Lines.{between, line_facts, v_of, f_of};

@@ -1,4 +1,6 @@
 // A bench file, a byte at a time: tag, options, words, each section after its count. Nothing is sized by a count.
+#![tactic(auto)]
+
 ghost use Rattle.std.specs.Prelude.{◌≡◌, ◌<◌};
 ghost use Rattle.reader.specs.Reader.{blank, brings, chooses, counted, ends, fresh, goes_on, is_cut, of_high_byte, of_low_byte, of_options_count, of_raster_byte, of_tag_byte, of_tag_count, of_wipe_byte, of_word_count, read_of, refused, tagged, tag_with, waits, word_of};
 

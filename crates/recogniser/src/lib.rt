@@ -1,4 +1,6 @@
 // The recogniser: what each unscrambled bit completes. It sees bits and no rows.
+#![tactic(auto)]
+
 ghost use Rattle.std.specs.Prelude.{◌≡◌};
 ghost use Rattle.align.specs.Search.{slid};
 ghost use Rattle.recogniser.specs.Sight.{is_eav, last_pair, window_after};

@@ -1,4 +1,6 @@
 // The regions of a stream that may hold packets: scanned, and their packets changed in place.
+#![tactic(auto)]
+
 ghost use Rattle.std.specs.Prelude.{◌≡◌};
 ghost use Rattle.parts.specs.Parts.{in_part};
 ghost use Rattle.scan.specs.Scan.{scanned};

@@ -1,4 +1,6 @@
 // Correction of a row in place.
+#![tactic(auto)]
+
 ghost use Rattle.std.specs.Prelude.{◌≡◌};
 ghost use Rattle.plan.specs.Plan.{plan_of};
 ghost use Rattle.stream.specs.Words.{y_blank, c_blank};

@@ -1,4 +1,6 @@
 // A row of two channels: its flags and the carry that it leaves.
+#![tactic(auto)]
+
 ghost use Rattle.std.specs.Prelude.{◌≡◌, [], ◌∷◌, ◌<◌};
 ghost use Rattle.bits.specs.Bits.{number};
 ghost use Rattle.row.specs.Before.{carried, carry_ok};

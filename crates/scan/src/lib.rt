@@ -1,4 +1,6 @@
 // The scan of one region for ancillary packets.
+#![tactic(auto)]
+
 ghost use Rattle.std.specs.Prelude.{◌≡◌, ◌+◌, ◌≤◌, ◌<◌, eqb, length, drop};
 ghost use Rattle.parts.specs.Parts.{any};
 ghost use Rattle.scan.specs.Packet.{checksum_of, marked};

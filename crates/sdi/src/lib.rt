@@ -1,6 +1,7 @@
 // The face of the library: the calls that the scope names, in its order, and their types. A call takes any words, lengths,
 // numbers and choices; it does its work, or answers one number of the refusal table (docs/REFUSALS.md) and changes nothing
 // that it was lent. Its numbers stand here in the order in which they are given. Another program needs no name but these.
+#![tactic(auto)]
 
 // ---- cable bits
 

@@ -1,4 +1,6 @@
 // Words of a bench file's section read at once, where a reader stands before them.
+#![tactic(auto)]
+
 ghost use Rattle.std.specs.Prelude.{◌≡◌, ◌*◌, ◌≤◌, min, length};
 ghost use Rattle.reader.specs.Reader.{word_of};
 ghost use Rattle.section.specs.Section.{after_words, run_of, run_words, starts_no_word, words_ahead, words_over};

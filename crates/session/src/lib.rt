@@ -1,4 +1,6 @@
 // A module session: begin (raster), feed (words), end (verdict).
+#![tactic(auto)]
+
 ghost use Rattle.std.specs.Prelude.{◌≡◌, true, ◌≤◌};
 ghost use Rattle.bits.specs.Words.{words10};
 ghost use Rattle.cable.specs.Words.{unscramble_next};

@@ -2,7 +2,7 @@
 #![tactic(auto)]
 
 use crc::sheet::STEPS;
-use std::io::{self, BufWriter, Write};
+use std::io::{self, Write};
 
 fn text<W: Write>(to: &mut W, bytes: &[u8]) -> io::Result<()> {
     to.write_all(bytes)
@@ -43,7 +43,7 @@ fn entry<W: Write>(to: &mut W, index: u32, number: u32) -> io::Result<()> {
 }
 
 fn main(rt: HostRuntime) -> io::Result<()> {
-    let mut to = BufWriter::new(rt.alloc(), rt.stdout())?;
+    let mut to = rt.stdout();
     let steps = STEPS;
     for index in 0..1024u32 {
         entry(&mut to, index, steps[index as usize])?;

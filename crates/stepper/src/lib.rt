@@ -1,4 +1,6 @@
 // A step: one unscrambled bit recognised, judged, tallied, laid; and the ten bits of a word.
+#![tactic(auto)]
+
 ghost use Rattle.std.specs.Prelude.{◌≡◌};
 ghost use Rattle.bits.specs.Bits.{bits};
 ghost use Rattle.parts.specs.Parts.{part};

@@ -1,4 +1,6 @@
 // One stream of a row: what is wrong with it, and the register that it leaves.
+#![tactic(auto)]
+
 ghost use Rattle.std.specs.Prelude.{◌≡◌, ◌&&◌, [], ◌∷◌, take};
 ghost use Rattle.bits.specs.Words.{reserved_code};
 ghost use Rattle.crc.specs.Crc.{crc_words};

@@ -1,6 +1,6 @@
 -- Ten bits of two words that stand one after the other, from a bit of the first on.
 use mathlib.Core.Path.{◌≡◌, sym, ap, ◌∙◌}
-use Prim.Native.Nat.{ℕ, ◌+◌, ◌-◌, ◌*◌, ◌/◌, ◌%◌, ◌^◌, ◌≤◌, ◌<◌}
+use Prim.Native.Nat.{ℕ, ◌+◌, ◌*◌, ◌/◌, ◌%◌, ◌^◌, ◌≤◌, ◌<◌}
 use native.Mathlib.Omega.{arith}
 use native.Mathlib.Nat.{add_comm, mul_comm, mul_assoc, mul-add, add-mul-div_left, mul-le-mul_left, div-lt_iff_lt-mul, mod-lt}
 use lib.Pow.{pow_pos, pow-add, split, shr-shr}

@@ -1,4 +1,6 @@
 // The words of a feed: many at once where nothing but pairs of a row can end, else bit by bit.
+#![tactic(auto)]
+
 ghost use Rattle.std.specs.Prelude.{◌≡◌, true, false, ℕ, ◌+◌, ◌*◌, ◌/◌, ◌≤◌, ◌<◌, length, get_or, take, drop};
 ghost use Rattle.bits.specs.Bits.{word_bits};
 ghost use Rattle.bits.specs.Words.{words10};

@@ -1,4 +1,6 @@
 // The tally: counts of what happens, and the verdict that follows.
+#![tactic(auto)]
+
 ghost use Rattle.std.specs.Prelude.{◌≡◌};
 ghost use Rattle.judging.specs.Happening.{happenings};
 ghost use Rattle.tally.specs.Tally.{is_fault, is_row, label, label_for, no_counts, raised, tallied, verdict_of};

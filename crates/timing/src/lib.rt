@@ -1,4 +1,6 @@
 // Timing codes and line numbers: words built and read.
+#![tactic(auto)]
+
 ghost use Rattle.std.specs.Prelude.{◌≡◌, true};
 ghost use Rattle.raster.specs.Table.{raster_ok};
 ghost use Rattle.timing.specs.Xyz.{xyz_of, read_xyz, told, reading_of};

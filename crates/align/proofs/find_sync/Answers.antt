@@ -1,7 +1,7 @@
 use mathlib.Core.Path.{◌≡◌, refl, sym, ap, ◌∙◌}
 use mathlib.Core.List.{List}
 use mathlib.Core.Option.{none}
-use Prim.Native.Nat.{ℕ, ◌+◌, ◌-◌, ◌*◌}
+use Prim.Native.Nat.{ℕ, ◌+◌, ◌*◌}
 use native.Mathlib.Omega.{arith}
 use Rattle.bits.specs.Choice.{if}
 use Rattle.bits.specs.Bits.{bits}
@@ -22,8 +22,8 @@ answered ws r e = (e, (ap sync_refusal e ∙ found_refusal ws, ap sync_place e �
 pub returns-then-not-all_words : goal.returns-then-not-all_words
 returns-then-not-all_words c =
     answer_means (
-      let words = c.args.words.now in
-      answered words Refused (sym (found-refused words (sym c.all_words.ensures ∙ c.if-not-all_words.true))))
+    let words = c.args.words.now in
+    answered words Refused (sym (found-refused words (sym c.all_words.ensures ∙ c.if-not-all_words.true))))
 
 pub loop-i-init : goal.loop-i-init
 loop-i-init c = (omega arith, refl)
@@ -37,13 +37,13 @@ place_before-requires c =
 pub returns-in-Ends : goal.returns-in-Ends
 returns-in-Ends c =
     answer_means (
-      let words = c.args.words.now in
-      let at = c.loop-i in
-      let bit = c.in-Ends.bit in
-      let stop = ends_stop words at.i at.last (omega arith) bit (sym c.search_word.ensures ∙ c.in-Ends.is) in
-      let place = sync_from_end words (at.i * 10 + bit) (sym at.invariant.1 ∙ stop) in
-      answered words c.place_before.result
-      (c.place_before.ensures ∙ ap sync_at (sym place) ∙ sym (found_words words (sym c.all_words.ensures ∙ c.if-not-all_words.false))))
+    let words = c.args.words.now in
+    let at = c.loop-i in
+    let bit = c.in-Ends.bit in
+    let stop = ends_stop words at.i at.last (omega arith) bit (sym c.search_word.ensures ∙ c.in-Ends.is) in
+    let place = sync_from_end words (at.i * 10 + bit) (sym at.invariant.1 ∙ stop) in
+    answered words c.place_before.result
+    (c.place_before.ensures ∙ ap sync_at (sym place) ∙ sym (found_words words (sym c.all_words.ensures ∙ c.if-not-all_words.false))))
 
 pub loop-i-preserved : goal.loop-i-preserved
 loop-i-preserved c =
@@ -55,7 +55,7 @@ loop-i-preserved c =
 pub returns : goal.returns
 returns c =
     answer_means (
-      let words = c.args.words.now in
-      let at = c.loop-i in
-      let place = sync_from_none words (sym at.invariant.1 ∙ ends_end words at.i at.last (omega arith)) in
-      answered words Nothing (ap sync_at (sym place) ∙ sym (found_words words (sym c.all_words.ensures ∙ c.if-not-all_words.false))))
+    let words = c.args.words.now in
+    let at = c.loop-i in
+    let place = sync_from_none words (sym at.invariant.1 ∙ ends_end words at.i at.last (omega arith)) in
+    answered words Nothing (ap sync_at (sym place) ∙ sym (found_words words (sym c.all_words.ensures ∙ c.if-not-all_words.false))))

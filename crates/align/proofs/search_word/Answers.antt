@@ -1,5 +1,4 @@
 use mathlib.Core.Path.{refl, sym, ◌∙◌}
-use Prim.Native.Nat.{◌-◌}
 use native.Mathlib.Omega.{arith}
 use Rattle.align.proofs.Search.{searched_stop, searched_step, searched_end}
 use Rattle.align.proofs.search_word.Goals as goal

@@ -1,5 +1,4 @@
 -- scramble_all: what is left, after the cable bits so far, gives the rest of the result.
-use Prim.Native.Nat.{◌-◌}
 use native.Mathlib.Omega.{arith}
 use Rattle.cable.specs.Words.{scramble_word, scramble_words, scramble_next}
 use Rattle.cable.proofs.Coding.{filling_start, filling_step, filling_end, word_range}

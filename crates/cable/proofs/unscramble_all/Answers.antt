@@ -1,6 +1,5 @@
 -- unscramble_all: what is left, after the cable bits so far, gives the rest of the result.
 use mathlib.Core.Path.{refl}
-use Prim.Native.Nat.{◌-◌}
 use native.Mathlib.Omega.{arith}
 use Rattle.cable.specs.Words.{unscramble_word, unscramble_words, unscramble_next}
 use Rattle.bits.proofs.Words.{words10_at}

@@ -30,17 +30,17 @@ placed c =
     let at = c.args in
     let plan = c.plan_of-plan in
     build_refusal-fits at.raster at.line at.carry at.yactive.now at.cactive.now at.ylaid.now at.claid.now (length at.y.now) (length at.c.now) plan.result plan.ensures (
-      rw c.refusal_under-refusal.ensures (build_refusal_under at.raster at.line _ _ _ _ _ _ _ plan.result plan.ensures (plan_found at.raster at.line plan.result plan.ensures c.if-plan-ne0.false).ok)
-          ∙ c.if-refusal-ne0.false)
+    rw c.refusal_under-refusal.ensures (build_refusal_under at.raster at.line _ _ _ _ _ _ _ plan.result plan.ensures (plan_found at.raster at.line plan.result plan.ensures c.if-plan-ne0.false).ok)
+    ∙ c.if-refusal-ne0.false)
 
 pub returns-then-plan-ne0 : goal.returns-then-plan-ne0
 returns-then-plan-ne0 c =
     answer_luma_chroma (
-      let at = c.args in
-      let none = c.if-plan-ne0.true in
-      let line = ap (λ (p : Plan). p.refusal) c.plan_of-plan.ensures ∙ plan_of_refusal at.raster at.line in
-      rw (c.refused.ensures, build_refusal_line at.raster at.line _ _ _ _ _ _ _ (λ z. none (line ∙ z)), ← line)
-      (refused-nothing _ _ _ _ _ _ _ none))
+    let at = c.args in
+    let none = c.if-plan-ne0.true in
+    let line = ap (λ (p : Plan). p.refusal) c.plan_of-plan.ensures ∙ plan_of_refusal at.raster at.line in
+    rw (c.refused.ensures, build_refusal_line at.raster at.line _ _ _ _ _ _ _ (λ z. none (line ∙ z)), ← line)
+    (refused-nothing _ _ _ _ _ _ _ none))
 
 pub returns-then-refusal-ne0 : goal.returns-then-refusal-ne0
 returns-then-refusal-ne0 c = answer_luma_chroma (rw (c.refused-then-refusal-ne0.ensures, under (goal.at.returns-then-refusal-ne0 c).After-refusal_under-refusal) (refused-nothing _ _ _ _ _ _ _ c.if-refusal-ne0.true))

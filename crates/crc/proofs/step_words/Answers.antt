@@ -1,6 +1,6 @@
 -- `step_words`: the sheet's rule holds of the code's own table, and what the words left do to the register stays the same.
 use mathlib.Core.Path.{refl, sym, ap, ◌∙◌}
-use Prim.Native.Nat.{ℕ, ◌+◌, ◌-◌}
+use Prim.Native.Nat.{ℕ, ◌+◌}
 use native.Mathlib.Omega.{arith}
 use lib.ListN.{drop, get_or}
 use Rattle.bits.specs.Bits.{odd, bits}

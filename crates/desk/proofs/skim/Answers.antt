@@ -1,6 +1,5 @@
 -- skim: the bytes from here, at any desk with the reader as it is now, give what those from the start give with the reader as it was.
 use mathlib.Core.Path.{sym, ◌∙◌}
-use Prim.Native.Nat.{◌-◌}
 use native.Mathlib.Omega.{arith}
 use Rattle.desk.specs.Desk.{desk, standing}
 use Rattle.desk.proofs.Skimming.{ahead_none, ahead_then, ahead_more}

@@ -1,5 +1,5 @@
 use Prim.Native.Nat.{◌-◌}
-use Rattle.desk.specs.Desk.{desk, AheadAlone}
+use Rattle.desk.specs.Desk.{AheadAlone}
 use Rattle.desk.proofs.skim.Given as goal
 
 -- skim: the bytes from here, at any desk with the reader as it is now, give what those from the start give with the reader as it was.

@@ -1,11 +1,10 @@
 use mathlib.Core.Path.{◌≡◌, refl, sym, ◌∙◌}
 use mathlib.Core.List.{flat_map}
-use Prim.Native.Nat.{◌-◌}
 use native.Mathlib.Omega.{arith}
 use native.Mathlib.Nat.{add-zero}
 use Rattle.parts.specs.Parts.{laid}
 use Rattle.scan.specs.declared.Here.{Here}
-use Rattle.scan.specs.Scan.{packets_of, scan}
+use Rattle.scan.specs.Scan.{packets_of}
 use Rattle.scan.proofs.Pieces.{Turn, scan-turn, scan_end}
 use Rattle.finding.proofs.Extracting.{length_packets_whole, laid_packets_whole}
 use Rattle.finding.proofs.copy_region.Goals as goal

@@ -12,8 +12,8 @@ use Rattle.finding.proofs.extract_channel.Goals as goal
 pub returns-then-out-scanned : goal.returns-then-out-scanned
 returns-then-out-scanned c =
     answer_buffer (
-      let a = c.args in
-      extracted-short (packets_of (ancillary a.plan a.words.now)) a.out.now _ (ap (λ s. s.words) c.scan_packets-scanned.ensures) c.if-out-scanned.true)
+    let a = c.args in
+    extracted-short (packets_of (ancillary a.plan a.words.now)) a.out.now _ (ap (λ s. s.words) c.scan_packets-scanned.ensures) c.if-out-scanned.true)
 
 pub copy_region-at-requires : goal.copy_region-at-requires
 copy_region-at-requires c =
@@ -40,9 +40,9 @@ copy_region-requires c =
 pub returns : goal.returns
 returns c =
     answer_buffer (
-      let a = c.args in
-      extracted_copied (packets_of (ancillary a.plan a.words.now)) a.out.now _
-      (ap (λ s. s.words) c.scan_packets-scanned.ensures) c.if-out-scanned.false _
-      (c.copy_region.ensures.buffer
-      ∙ ap₂ (λ (at : ℕ) (l : List ℕ). laid at (packets_of (scan c.active_region.result.now)) l) c.copy_region-at.ensures.answer c.copy_region-at.ensures.buffer
-      ∙ sym (laid_both a.plan a.words.now _ _ c.part-blanking.ensures c.active_region.ensures a.out.now)))
+    let a = c.args in
+    extracted_copied (packets_of (ancillary a.plan a.words.now)) a.out.now _
+    (ap (λ s. s.words) c.scan_packets-scanned.ensures) c.if-out-scanned.false _
+    (c.copy_region.ensures.buffer
+    ∙ ap₂ (λ (at : ℕ) (l : List ℕ). laid at (packets_of (scan c.active_region.result.now)) l) c.copy_region-at.ensures.answer c.copy_region-at.ensures.buffer
+    ∙ sym (laid_both a.plan a.words.now _ _ c.part-blanking.ensures c.active_region.ensures a.out.now)))

@@ -1,10 +1,9 @@
 use mathlib.Core.Path.{◌≡◌, sym, ◌∙◌}
 use mathlib.Core.Bool.{true, false}
-use Prim.Native.Nat.{◌-◌}
 use native.Mathlib.Omega.{arith}
 use Rattle.parts.proofs.Inside.{length_part}
 use Rattle.scan.specs.declared.Here.{Here}
-use Rattle.scan.specs.Scan.{Packet, scan}
+use Rattle.scan.specs.Scan.{Packet}
 use Rattle.scan.proofs.Pieces.{Turn, scan-turn, scan_end}
 use Rattle.finding.specs.Find.{wanted, found}
 use Rattle.finding.proofs.find_in.Goals as goal

@@ -1,6 +1,6 @@
 -- `fold_block`: a store leaves what stands before it, and adds the next word that is taken out.
 use mathlib.Core.Path.{refl, ◌∙◌}
-use Prim.Native.Nat.{◌+◌, ◌-◌}
+use Prim.Native.Nat.{◌+◌}
 use native.Mathlib.Omega.{arith}
 use lib.ListN.{length-set}
 use lib.Seq.{take-set-le}

@@ -1,6 +1,6 @@
 -- `step_tails`: the sheet's rule holds of the code's own table, and what the words left do to each register stays the same.
 use mathlib.Core.Path.{refl, sym, ap, ap₂, ◌∙◌}
-use Prim.Native.Nat.{ℕ, ◌+◌, ◌-◌}
+use Prim.Native.Nat.{ℕ, ◌+◌}
 use native.Mathlib.Omega.{arith}
 use lib.ListN.{drop, get_or}
 use Rattle.bits.specs.Bits.{odd, bits}

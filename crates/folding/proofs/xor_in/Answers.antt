@@ -1,6 +1,5 @@
 -- `xor_in`: after i stores the first i words have theirs xor-ed in, and the others are as they were.
 use mathlib.Core.Path.{refl}
-use Prim.Native.Nat.{◌-◌}
 use native.Mathlib.Omega.{arith}
 use lib.ListN.{length-set}
 use Rattle.folding.proofs.Stores.{mixed_step, mixed_end}

@@ -15,5 +15,5 @@ pub returns : goal.returns
 unfolding built
 returns c =
     answer_buffer (
-      rw (← c.build_refusal-refusal.ensures, c.if-refusal-ne0.false)
-      (refl, c.lay_packet.ensures))
+    rw (← c.build_refusal-refusal.ensures, c.if-refusal-ne0.false)
+    (refl, c.lay_packet.ensures))

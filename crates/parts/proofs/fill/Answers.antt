@@ -1,5 +1,5 @@
 use mathlib.Core.Path.{refl, sym, ◌∙◌}
-use Prim.Native.Nat.{◌+◌, ◌-◌}
+use Prim.Native.Nat.{◌+◌}
 use native.Mathlib.Omega.{arith}
 use lib.ListN.{drop, replicate, length-set, length-replicate}
 use Rattle.parts.proofs.Laid.{laid_repeat_step, laid_end, laid-past, laid_start}

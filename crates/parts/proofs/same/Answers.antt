@@ -1,5 +1,4 @@
 use mathlib.Core.Path.{refl, sym, ◌∙◌}
-use Prim.Native.Nat.{◌-◌}
 use native.Mathlib.Omega.{arith}
 use Rattle.parts.proofs.Comparing.{same_step, same_stop, same_end, same_length}
 use Rattle.parts.proofs.same.Goals as goal

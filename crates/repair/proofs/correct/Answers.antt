@@ -9,12 +9,12 @@ pub returns-then-refusal-ne0 : goal.returns-then-refusal-ne0
 unfolding corrected
 returns-then-refusal-ne0 c =
     answer_luma_chroma (
-      let refusal = c.check_refusal-refusal in
-      let bad = c.if-refusal-ne0.true in
-      rw (← refusal.ensures) (
-        sym (corrected_for-refused refusal.result _ bad),
-        (sym (unless_refused-refused refusal.result _ _ bad), sym (unless_refused-refused refusal.result _ _ bad)),
-      ))
+    let refusal = c.check_refusal-refusal in
+    let bad = c.if-refusal-ne0.true in
+    rw (← refusal.ensures) (
+      sym (corrected_for-refused refusal.result _ bad),
+      (sym (unless_refused-refused refusal.result _ _ bad), sym (unless_refused-refused refusal.result _ _ bad)),
+    ))
 
 pub returns : goal.returns
 unfolding corrected

@@ -1,5 +1,4 @@
 use mathlib.Core.Path.{refl, sym, ◌∙◌}
-use Prim.Native.Nat.{◌-◌}
 use native.Mathlib.Omega.{arith}
 use Rattle.parts.proofs.Comparing.{any-found_step, any-found_end}
 use Rattle.scan.proofs.any_zero.Invariants.{is_zero}

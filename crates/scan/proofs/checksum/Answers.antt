@@ -1,5 +1,4 @@
 use mathlib.Core.Path.{sym, ap, ◌∙◌}
-use Prim.Native.Nat.{◌-◌}
 use native.Mathlib.Nat.{mod-eq_of_lt, zero-add}
 use borrow.Author.Rules.{rules}
 use Rattle.bits.specs.Words.{nine_of}

@@ -1,11 +1,11 @@
 use mathlib.Core.Path.{◌≡◌, refl, sym, ap, ◌∙◌}
-use Prim.Native.Nat.{ℕ, ◌+◌, ◌-◌, ◌%◌, ◌≤◌}
+use Prim.Native.Nat.{ℕ, ◌+◌, ◌%◌, ◌≤◌}
 use native.Mathlib.Omega.{arith}
 use native.Mathlib.Nat.{zero-add, mod-eq_of_lt}
 use lib.ListN.{length, get_or, take, drop, length-take}
 use borrow.Author.Rules.{rules}
 use Rattle.scan.specs.declared.Here.TheVariants.{Whole}
-use Rattle.scan.specs.Scan.{scan, here_of, piece_at}
+use Rattle.scan.specs.Scan.{here_of, piece_at}
 use Rattle.scan.proofs.Packets.{sum_walk, marked-room, sum_end}
 use Rattle.scan.proofs.Pieces.{here_of-nothing, here_of_cut, here_of_whole, with_rest, scanned_start, scanned-nothing, scanned_cut, scanned_whole, scanned_end, scan_end}
 use Rattle.scan.proofs.scan.Goals as goal

@@ -1,6 +1,5 @@
 -- lay_words: the words so far are laid.
 use mathlib.Core.Path.{◌≡◌, refl, ap, ◌∙◌}
-use Prim.Native.Nat.{◌-◌}
 use native.Mathlib.Omega.{arith}
 use lib.ListN.{set, length-set}
 use borrow.Author.Rules.{rules}
@@ -12,8 +11,7 @@ loop-i-init c = (omega arith, refl, refl)
 
 pub loop-i-preserved : goal.loop-i-preserved
 loop-i-preserved c =
-    let at = c.loop-i in
-    (
+    let at = c.loop-i in (
       search rules,
       length-set at.words at.i c.word_of.result ∙ at.invariant.1,
       ap (λ ws. set ws at.i c.word_of.result) at.invariant.2

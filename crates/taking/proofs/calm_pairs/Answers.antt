@@ -1,6 +1,6 @@
 -- calm_pairs: all pairs where no two neighbours are zeros, else as far as each was found calm.
 use mathlib.Core.Path.{sym, ap, subst, ◌∙◌}
-use Prim.Native.Nat.{ℕ, ◌+◌, ◌-◌, ◌*◌, ◌/◌}
+use Prim.Native.Nat.{ℕ, ◌+◌, ◌*◌, ◌/◌}
 use native.Mathlib.Omega.{arith}
 use Rattle.taking.specs.Hurry.{Calm}
 use Rattle.taking.proofs.Words.{pair_at, last_more, last_none}

@@ -1,6 +1,4 @@
 -- has_gap: where none was found so far, of no two neighbours so far both are zeros.
-use mathlib.Core.Bool.{false}
-use Prim.Native.Nat.{◌-◌}
 use native.Mathlib.Omega.{arith}
 use Rattle.taking.proofs.Gaps.{gap_turn}
 use Rattle.taking.proofs.has_gap.Goals as goal

@@ -16,11 +16,14 @@ returns-then-is_nowhere c =
     let calm = c.calm_pairs-n in
     let outside = c.is_nowhere.ensures c.if-is_nowhere.true in
     let free = c.is_free.ensures (c.if-not-is_free.false) in
-    let a = c.args in record { some = (omega (arith, m.0), omega (arith, m.0, calm.ensures.0)); rest = λ code s.
+    let a = c.args in record {
+      some = (omega (arith, m.0), omega (arith, m.0, calm.ensures.0));
+      rest = λ code s.
           rw (m.0, m.1, l)
           (of_standing (seeing s a.sight) code a.total a.at a.words.now a.y.now a.c.now free.0
           (passed_at a.words.now c.requires.1 code a.total (seeing s a.sight) a.sight.window.last a.at calm.result a.sight.place a.y.now a.c.now outside
-          (omega (arith, calm.ensures.0)) calm.ensures.1)) }
+          (omega (arith, calm.ensures.0)) calm.ensures.1));
+    }
 
 pub overflow_sub-total : goal.overflow_sub-total
 overflow_sub-total c =
@@ -49,6 +52,9 @@ returns c =
     let calm = c.calm_pairs-n-2.ensures in
     let few = c.fewer.ensures in
     let free = c.is_free.ensures (c.if-not-is_free.false) in
-    let a = c.args in record { some = (omega (arith, m.0), omega (arith, m.0, calm.0, few.0)); rest = λ code s.
+    let a = c.args in record {
+      some = (omega (arith, m.0), omega (arith, m.0, calm.0, few.0));
+      rest = λ code s.
           rw (m.0, m.1, l)
-          (of_standing (seeing s a.sight) code a.total a.at a.words.now a.y.now a.c.now free.0 (c.lay_pairs.ensures code (seeing s a.sight))) }
+          (of_standing (seeing s a.sight) code a.total a.at a.words.now a.y.now a.c.now free.0 (c.lay_pairs.ensures code (seeing s a.sight)));
+    }

@@ -1,5 +1,4 @@
 -- is_calm: a number that is too low or too high for a sync within twenty bits; else twenty zeros with none of which a sync ends.
-use Prim.Native.Nat.{◌-◌}
 use native.Mathlib.Omega.{arith}
 use Rattle.bits.proofs.Choice.{false_not_true}
 use Rattle.taking.proofs.Sliding.{calm_high, calm_low, calm_zeros, zeros_turn, zeros_end}

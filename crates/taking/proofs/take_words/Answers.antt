@@ -1,6 +1,5 @@
 -- take_words: the words that are left, from here and after the word before, give what all give from the start.
 use mathlib.Core.Path.{refl, sym, ◌∙◌}
-use Prim.Native.Nat.{◌-◌}
 use native.Mathlib.Omega.{arith}
 use lib.ListN.{length-take}
 use borrow.Author.Rules.{rules}

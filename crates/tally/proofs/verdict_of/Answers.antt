@@ -16,26 +16,26 @@ clear c = (c.if-not-seen.false, eq-eqb _ _ c.if-counts-ne0.false)
 pub returns-then-not-seen : goal.returns-then-not-seen
 returns-then-not-seen c =
     answer_means (
-      let at = c.args in
-      verdict_answered at.seen at.lines at.counts NoSignal (rw (c.if-not-seen.true)))
+    let at = c.args in
+    verdict_answered at.seen at.lines at.counts NoSignal (rw (c.if-not-seen.true)))
 
 pub returns-then-counts-ne0 : goal.returns-then-counts-ne0
 returns-then-counts-ne0 c =
     answer_means (
-      let at = c.args in
-      verdict_answered at.seen at.lines at.counts Fail
-      (rw (c.if-not-seen.false, ne_eqb at.counts.faults 0 c.if-counts-ne0.true)))
+    let at = c.args in
+    verdict_answered at.seen at.lines at.counts Fail
+    (rw (c.if-not-seen.false, ne_eqb at.counts.faults 0 c.if-counts-ne0.true)))
 
 pub returns-then-counts-lines : goal.returns-then-counts-lines
 returns-then-counts-lines c =
     answer_means (
-      let at = c.args in
-      let e = clear (goal.at.returns-then-counts-lines c).Else-counts-ne0 in
-      verdict_answered at.seen at.lines at.counts Short (rw (e.0, e.1, lt-ltb at.counts.rows at.lines c.if-counts-lines.true)))
+    let at = c.args in
+    let e = clear (goal.at.returns-then-counts-lines c).Else-counts-ne0 in
+    verdict_answered at.seen at.lines at.counts Short (rw (e.0, e.1, lt-ltb at.counts.rows at.lines c.if-counts-lines.true)))
 
 pub returns : goal.returns
 returns c =
     answer_means (
-      let at = c.args in
-      let e = clear (goal.at.returns c).Else-counts-ne0 in
-      verdict_answered at.seen at.lines at.counts Pass (rw (e.0, e.1, le-ltb at.counts.rows at.lines c.if-counts-lines.false)))
+    let at = c.args in
+    let e = clear (goal.at.returns c).Else-counts-ne0 in
+    verdict_answered at.seen at.lines at.counts Pass (rw (e.0, e.1, le-ltb at.counts.rows at.lines c.if-counts-lines.false)))

@@ -15,13 +15,13 @@ pub returns-then-word-xyz : goal.returns-then-word-xyz
 unfolding read_xyz odd
 returns-then-word-xyz c =
     answer_means (
-      let w = c.args.word in
-      xyz_answered w (Exact (f_bit w) (v_bit w) (h_bit w))
-      (rw (le-leb _ _ c.if-word-gt1023.false, eq-eqb _ _ (c.if-word-xyz.true ∙ c.xyz.ensures))))
+    let w = c.args.word in
+    xyz_answered w (Exact (f_bit w) (v_bit w) (h_bit w))
+    (rw (le-leb _ _ c.if-word-gt1023.false, eq-eqb _ _ (c.if-word-xyz.true ∙ c.xyz.ensures))))
 
 pub returns : goal.returns
 unfolding read_xyz odd
 returns c =
     answer_means (
-      xyz_answered c.args.word Inexact
-      (rw (le-leb _ _ c.if-word-gt1023.false, ne_eqb _ _ (λ e. c.if-word-xyz.false (e ∙ sym c.xyz.ensures)))))
+    xyz_answered c.args.word Inexact
+    (rw (le-leb _ _ c.if-word-gt1023.false, ne_eqb _ _ (λ e. c.if-word-xyz.false (e ∙ sym c.xyz.ensures)))))

@@ -1,6 +1,5 @@
 -- take: the bytes that are left, from here, give what all give from the start.
 use mathlib.Core.Path.{◌≡◌, refl, sym, ◌∙◌}
-use Prim.Native.Nat.{◌-◌}
 use native.Mathlib.Omega.{arith}
 use borrow.Author.Rules.{rules}
 use Rattle.parts.proofs.Laid.{unless_refused-refused}

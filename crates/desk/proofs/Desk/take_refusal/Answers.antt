@@ -20,9 +20,9 @@ is_open c =
     let self = c.args.self in
     let e = c.words_at.ensures in
     elim c.if-words_at.branch [
-      then-words_at+else-end-ne0 w ↦
+      | then-words_at+else-end-ne0 w ↦
           rw (sym e ∙ w.if-words_at.true, eq-eqb (end_refusal self.session) 0 (sym (ended_refusal self.session w.end.ensures.answer) ∙ w.if-end-ne0.false))
-    | else-words_at w ↦ rw (sym e ∙ w.if-words_at.false)
+      | else-words_at w ↦ rw (sym e ∙ w.if-words_at.false)
     ]
 
 pub returns-then-end-ne0 : goal.returns-then-end-ne0

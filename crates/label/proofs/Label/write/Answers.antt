@@ -1,6 +1,5 @@
 -- write: the bytes that are left, written from here, give what all give from the start.
 use mathlib.Core.Path.{refl, sym, ◌∙◌}
-use Prim.Native.Nat.{◌-◌}
 use borrow.Author.Rules.{rules}
 use Rattle.label.proofs.Writing.{written_step, written_full, written_end}
 use Rattle.label.proofs.Label.write.Goals as goal

@@ -9,7 +9,7 @@ use Rattle.desk.specs.declared.Job.{Job}
 use Rattle.desk.specs.declared.Kind.{Kind}
 use Rattle.desk.specs.declared.Kind.TheVariants.{Nothing, Done, BadFile}
 use Rattle.desk.specs.declared.Outcome.{Outcome}
-use Rattle.desk.specs.Desk.{Walk, walk, walked, walk_of, take_refusal, brought, taken, taken_y, taken_c, finished, Standing, standing, next}
+use Rattle.desk.specs.Desk.{Walk, walk, walked, walk_of, take_refusal, brought, taken, taken_y, taken_c, finished, Standing, next}
 use Rattle.law_file.specs.Serving.{told, after, answers, Served, served, also_told, served_in, served_all}
 use Rattle.law_file.specs.Promises.{between, ServedAlike, PiecesServed}
 use Rattle.law_file.proofs.Cuts.{cut_anywhere}

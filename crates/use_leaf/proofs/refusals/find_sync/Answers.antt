@@ -18,6 +18,6 @@ pub returns : goal.returns
 unfolding found_sync
 returns c =
     three_done_zeros (
-      let ws = c.args.words.now in
-      one_test sync_refusal (λ (x : Sync). sync_place x ≡ none) c.find_sync.ensures.answer (words10 ws) Refused
-      (λ bad. rw bad) (λ ok. rw ok (found (first_sync ws))) refl)
+    let ws = c.args.words.now in
+    one_test sync_refusal (λ (x : Sync). sync_place x ≡ none) c.find_sync.ensures.answer (words10 ws) Refused
+    (λ bad. rw bad) (λ ok. rw ok (found (first_sync ws))) refl)

@@ -11,7 +11,7 @@ pub returns : goal.returns
 unfolding line_facts
 returns c =
     four_five_done_zeros (
-      let a = c.args in
-      two_tests (λ (x : LineFacts). x.refusal) (λ (x : LineFacts). (x.v ≡ false) × (x.f ≡ false)) c.line_facts.ensures (raster_ok a.raster) (line_ok a.raster a.line)
-      (record { refusal = 4; v = false; f = false }) (record { refusal = 5; v = false; f = false })
-      (λ bad. rw bad) (λ ok bad. rw (ok, bad)) (λ ok good. rw (ok, good)) (refl, refl) (refl, refl))
+    let a = c.args in
+    two_tests (λ (x : LineFacts). x.refusal) (λ (x : LineFacts). (x.v ≡ false) × (x.f ≡ false)) c.line_facts.ensures (raster_ok a.raster) (line_ok a.raster a.line)
+    (record { refusal = 4; v = false; f = false }) (record { refusal = 5; v = false; f = false })
+    (λ bad. rw bad) (λ ok bad. rw (ok, bad)) (λ ok good. rw (ok, good)) (refl, refl) (refl, refl))

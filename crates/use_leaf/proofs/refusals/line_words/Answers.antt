@@ -11,7 +11,7 @@ pub returns : goal.returns
 unfolding line_words
 returns c =
     four_five_done_zeros (
-      let a = c.args in
-      two_tests (λ (x : LineWords). x.refusal) (λ (x : LineWords). (x.ln0 ≡ 0) × (x.ln1 ≡ 0)) c.line_words.ensures (raster_ok a.raster) (line_ok a.raster a.line)
-      (record { refusal = 4; ln0 = 0; ln1 = 0 }) (record { refusal = 5; ln0 = 0; ln1 = 0 })
-      (λ bad. rw bad) (λ ok bad. rw (ok, bad)) (λ ok good. rw (ok, good)) (refl, refl) (refl, refl))
+    let a = c.args in
+    two_tests (λ (x : LineWords). x.refusal) (λ (x : LineWords). (x.ln0 ≡ 0) × (x.ln1 ≡ 0)) c.line_words.ensures (raster_ok a.raster) (line_ok a.raster a.line)
+    (record { refusal = 4; ln0 = 0; ln1 = 0 }) (record { refusal = 5; ln0 = 0; ln1 = 0 })
+    (λ bad. rw bad) (λ ok bad. rw (ok, bad)) (λ ok good. rw (ok, good)) (refl, refl) (refl, refl))

@@ -9,5 +9,5 @@ pub returns : goal.returns
 unfolding looked_up
 returns c =
     four_done_zeros (
-      one_test (λ (x : LookedUp). x.refusal) (λ (x : LookedUp). x.raster ≡ no_raster) c.raster_of.ensures (raster_ok c.args.code)
-      (record { refusal = 4; raster = no_raster }) (λ bad. rw bad) (λ ok. rw ok) refl)
+    one_test (λ (x : LookedUp). x.refusal) (λ (x : LookedUp). x.raster ≡ no_raster) c.raster_of.ensures (raster_ok c.args.code)
+    (record { refusal = 4; raster = no_raster }) (λ bad. rw bad) (λ ok. rw ok) refl)

@@ -26,8 +26,8 @@ pub returns : goal.returns
 unfolding line_read
 returns c =
     four_three_done_zeros (
-      let a = c.args in
-      let two = two-words a.ln0 a.ln1 in
-      two_tests (λ (x : LineRead). x.refusal) (λ (x : LineRead). x.line ≡ 0) c.read_line.ensures (raster_ok a.raster) (words10 (a.ln0 ∷ a.ln1 ∷ []))
-      (record { refusal = 4; line = 0 }) (record { refusal = 3; line = 0 })
-      (λ bad. rw bad) (λ ok bad. rw (ok, two, bad)) (λ ok good. rw (ok, two, good)) refl refl)
+    let a = c.args in
+    let two = two-words a.ln0 a.ln1 in
+    two_tests (λ (x : LineRead). x.refusal) (λ (x : LineRead). x.line ≡ 0) c.read_line.ensures (raster_ok a.raster) (words10 (a.ln0 ∷ a.ln1 ∷ []))
+    (record { refusal = 4; line = 0 }) (record { refusal = 3; line = 0 })
+    (λ bad. rw bad) (λ ok bad. rw (ok, two, bad)) (λ ok good. rw (ok, two, good)) refl refl)

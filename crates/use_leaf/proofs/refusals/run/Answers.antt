@@ -11,6 +11,6 @@ pub returns : goal.returns
 unfolding ran
 returns c =
     three_done_zeros (
-      let a = c.args in
-      one_test (λ (x : Ran). x.refusal) (λ (x : Ran). x.register ≡ 0) c.run.ensures (register_ok a.register && words10 a.words.now)
-      (record { refusal = 3; register = 0 }) (λ bad. rw bad) (λ ok. rw ok) refl)
+    let a = c.args in
+    one_test (λ (x : Ran). x.refusal) (λ (x : Ran). x.register ≡ 0) c.run.ensures (register_ok a.register && words10 a.words.now)
+    (record { refusal = 3; register = 0 }) (λ bad. rw bad) (λ ok. rw ok) refl)

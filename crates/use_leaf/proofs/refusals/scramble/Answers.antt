@@ -8,7 +8,7 @@ pub returns : goal.returns
 unfolding scramble_words
 returns c =
     three_one_done_zeros_unchanged_beyond (
-      let a = c.args in
-      let h = a.history in
-      let ws = a.words.now in
-      coding_refusals h ws a.out.now (scramble_words h ws) (scramble_next h ws) c.scramble.ensures.answer c.scramble.ensures.output (length-grouped _ _))
+    let a = c.args in
+    let h = a.history in
+    let ws = a.words.now in
+    coding_refusals h ws a.out.now (scramble_words h ws) (scramble_next h ws) c.scramble.ensures.answer c.scramble.ensures.output (length-grouped _ _))

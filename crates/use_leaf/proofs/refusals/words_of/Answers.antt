@@ -9,5 +9,5 @@ pub returns : goal.returns
 unfolding cr_words
 returns c =
     three_done_zeros (
-      one_test (λ (x : CrcWords). x.refusal) (λ (x : CrcWords). (x.cr0 ≡ 0) × (x.cr1 ≡ 0)) c.words_of.ensures (register_ok c.args.register)
-      (record { refusal = 3; cr0 = 0; cr1 = 0 }) (λ bad. rw bad) (λ ok. rw ok) (refl, refl))
+    one_test (λ (x : CrcWords). x.refusal) (λ (x : CrcWords). (x.cr0 ≡ 0) × (x.cr1 ≡ 0)) c.words_of.ensures (register_ok c.args.register)
+    (record { refusal = 3; cr0 = 0; cr1 = 0 }) (λ bad. rw bad) (λ ok. rw ok) (refl, refl))

@@ -1,5 +1,4 @@
 use mathlib.Core.Path.{refl}
-use Prim.Native.Nat.{◌-◌}
 use native.Mathlib.Omega.{arith}
 use Rattle.use_row.proofs.Parting.{parting_end, parting_start, parting_step}
 use Rattle.use_row.proofs.shows.parted.Goals as goal

@@ -6,7 +6,7 @@ ghost use Rattle.cable.specs.Channels.{paired};
 ghost use Rattle.cable.specs.Words.{code_refusal, unscramble_words};
 ghost use Rattle.plan.specs.Plan.{plan_of};
 ghost use Rattle.plan.specs.Refusal.{or_refusal, row_refusal};
-ghost use Rattle.packet.specs.Build.{build_refusal as packetRefusal};
+ghost use Rattle.packet.specs.Build.{build_refusal as packet_refusal};
 ghost use Rattle.stream.specs.Words.{c_blank, y_blank};
 ghost use Rattle.row.specs.Row.{check_refusal, flags_of};
 ghost use Rattle.repair.specs.Repair.{wiped_if};
@@ -40,7 +40,7 @@ pub fn built_and_found(
     y: &mut [u16],
     c: &[u16],
 ) -> Sought
-    ensures number { result.refusal ≡ or_refusal (row_refusal raster line y.old c.now) (packetRefusal did user.now (length packet.old)) }
+    ensures number { result.refusal ≡ or_refusal (row_refusal raster line y.old c.now) (packet_refusal did user.now (length packet.old)) }
     ensures found { result.refusal ≡ 0 → (packets : List (List ℕ)) → PlaceAfter raster line did sdid user.now y.old at packets → result.found ≡ true }
     ensures refused { (result.refusal ≡ 0 → ⊥) → (packet.new ≡ packet.old) × (y.new ≡ y.old) }
 {
@@ -83,7 +83,7 @@ pub fn built_and_checked(
 ) -> Line
     ensures number { result.built.refusal ≡ build_refusal raster line carry yactive.now cactive.now ylaid.now claid.now (length y.old) (length c.old) }
     ensures checked { (result.checked.refusal ≡ result.built.refusal) × (result.checked.carry ≡ result.built.carry) }
-    ensures clean { result.built.refusal ≡ 0 → (yPackets cPackets : List (List ℕ)) → LawfulLine yactive.now cactive.now ylaid.now claid.now yPackets cPackets → result.checked.flags ≡ 0 }
+    ensures clean { result.built.refusal ≡ 0 → (y_packets c_packets : List (List ℕ)) → LawfulLine yactive.now cactive.now ylaid.now claid.now y_packets c_packets → result.checked.flags ≡ 0 }
     ensures refused { (result.built.refusal ≡ 0 → ⊥) → (y.new ≡ y.old) × (c.new ≡ c.old) }
 {
     let built = compose::build(raster, line, carry, yactive, cactive, ylaid, claid, y, c);

@@ -11,6 +11,3 @@ answer_buffer p = record { answer = p.0; buffer = p.1 }
 
 pub answer_luma_chroma : {A B C : Type 0} → A × (B × C) → record { answer : A; luma : B; chroma : C }
 answer_luma_chroma p = record { answer = p.0; luma = p.1.0; chroma = p.1.1 }
-
-pub answer_yrow_crow : {A B C : Type 0} → A × (B × C) → record { answer : A; yrow : B; crow : C }
-answer_yrow_crow p = record { answer = p.0; yrow = p.1.0; crow = p.1.1 }

@@ -127,6 +127,5 @@ fn main(rt: HostRuntime) -> io::Result<()> {
     text(&mut to, b"as it was sent")?;
     judge(&mut to, ROWS)?;
     text(&mut to, b"one bit struck")?;
-    judge(&mut to, 400)?;
-    to.flush()
+    judge(&mut to, 400)
 }

@@ -82,7 +82,7 @@ pub plan_of-fits : (code line : ℕ) → line_refusal code line ≡ 0 → Fits (
 plan_of-fits code line e =
     rw (plan_of-found code line e) (places_of-fits (looked_up code).raster (looked_up_range code (line_refusal_ok code line e).0))
 
--- ---- codesOf
+-- ---- codes_of
 
 -- none of the four words is a reserved code
 pub record Plain (c : Codes) : Type 0 where

@@ -48,5 +48,5 @@ fn main(rt: HostRuntime) -> io::Result<()> {
     for index in 0..1024u32 {
         entry(&mut to, index, steps[index as usize])?;
     }
-    to.flush()
+    Ok(())
 }

@@ -1,3 +1,4 @@
+-- code_refusal: each return follows from the tests that led to it.
 use mathlib.Core.Path.{◌≡◌, sym, ◌∙◌}
 use mathlib.Core.Bool.{true, false}
 use Rattle.bits.specs.Words.{words10}
@@ -5,7 +6,6 @@ use Rattle.cable.specs.Words.{code_refusal}
 use Rattle.bits.proofs.Cascade.{cascade}
 use Rattle.cable.proofs.code_refusal.Goals as goal
 
--- code_refusal: each return follows from the tests that led to it.
 pub returns-then-history-gt1023 : goal.returns-then-history-gt1023
 unfolding code_refusal
 returns-then-history-gt1023 c = search cascade depth 12

@@ -1,3 +1,4 @@
+-- `run`: each return is a case of `ran`.
 use mathlib.Core.Path.{sym, ap, ◌∙◌}
 use Prim.Native.Nat.{ℕ}
 use native.Mathlib.Omega.{arith}
@@ -5,7 +6,6 @@ use Rattle.crc.specs.declared.Ran.{Ran}
 use Rattle.crc.proofs.Words.{ran-done, ran_register, ran_words}
 use Rattle.crc.proofs.run.Goals as goal
 
--- `run`: each return is a case of `ran`.
 pub returns-then-register-gt-REGISTER_TOP : goal.returns-then-register-gt-REGISTER_TOP
 returns-then-register-gt-REGISTER_TOP c =
     let start = c.args in

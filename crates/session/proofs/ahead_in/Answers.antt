@@ -1,7 +1,7 @@
+-- ahead_in: one return a test of the definition.
 use borrow.Author.Tests.{eq-eqb, ne_eqb}
 use Rattle.session.proofs.ahead_in.Goals as goal
 
--- ahead_in: one return a test of the definition.
 pub returns-then-ahead-eq0 : goal.returns-then-ahead-eq0
 returns-then-ahead-eq0 c = rw (eq-eqb _ _ c.if-ahead-eq0.true)
 

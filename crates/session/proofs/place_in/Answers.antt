@@ -1,9 +1,9 @@
+-- place_in: one return a test of the definition; the code takes 3 from the pairs, the definition adds it to T.
 use Prim.Native.Nat.{◌+◌}
 use native.Mathlib.Omega.{arith}
 use borrow.Author.Tests.{eq-eqb, ne_eqb, le-leb, lt-leb}
 use Rattle.session.proofs.place_in.Goals as goal
 
--- place_in: one return a test of the definition; the code takes 3 from the pairs, the definition adds it to T.
 pub returns-then-place-eq0 : goal.returns-then-place-eq0
 returns-then-place-eq0 c = rw (eq-eqb _ _ c.if-place-eq0.true)
 

@@ -1,7 +1,7 @@
+-- raster_in: one return a test of the definition.
 use borrow.Author.Tests.{le-leb, lt-leb}
 use Rattle.session.proofs.raster_in.Goals as goal
 
--- raster_in: one return a test of the definition.
 pub returns-then-not-running : goal.returns-then-not-running
 returns-then-not-running c = rw (c.if-not-running.true)
 

@@ -1,7 +1,7 @@
+-- sight_in: one return a test of the definition.
 use borrow.Author.Tests.{le-leb, lt-leb}
 use Rattle.session.proofs.sight_in.Goals as goal
 
--- sight_in: one return a test of the definition.
 pub returns-then-sight-gt1152921504606846975 : goal.returns-then-sight-gt1152921504606846975
 returns-then-sight-gt1152921504606846975 c = rw (lt-leb _ _ c.if-sight-gt1152921504606846975.true)
 

@@ -1,9 +1,9 @@
+-- has_room: all tests hold where it answers true.
 use native.Mathlib.Omega.{arith}
 use borrow.Author.Tests.{leb-true}
 use Rattle.bits.proofs.Choice.{false_not_true}
 use Rattle.taking.proofs.has_room.Goals as goal
 
--- has_room: all tests hold where it answers true.
 pub returns-then-place-eq0 : goal.returns-then-place-eq0
 returns-then-place-eq0 c = λ e. absurd (false_not_true e)
 

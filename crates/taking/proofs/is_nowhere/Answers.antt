@@ -1,10 +1,10 @@
+-- is_nowhere: both tests hold where it answers true.
 use mathlib.Core.Path.{ap₂}
 use borrow.Author.Tests.{eqb-true}
 use Rattle.bits.proofs.Choice.{false_not_true}
 use Rattle.recogniser.specs.Event.{place}
 use Rattle.taking.proofs.is_nowhere.Goals as goal
 
--- is_nowhere: both tests hold where it answers true.
 pub returns-then-place-ne0 : goal.returns-then-place-ne0
 returns-then-place-ne0 c = λ e. absurd (false_not_true e)
 

@@ -1,3 +1,4 @@
+-- lay_pairs: the first pair is laid, and the others are dealt out of the words that were cut.
 use mathlib.Core.Path.{◌≡◌, refl, ◌∙◌}
 use Prim.Native.Nat.{◌+◌, ◌-◌, ◌/◌, ◌%◌, ◌^◌}
 use native.Mathlib.Omega.{arith}
@@ -7,7 +8,6 @@ use Rattle.taking.proofs.Words.{laid_none, lay_first}
 use Rattle.taking.proofs.Dealing.{laid_cut}
 use Rattle.taking.proofs.lay_pairs.Goals as goal
 
--- lay_pairs: the first pair is laid, and the others are dealt out of the words that were cut.
 pub returns-then-pairs-eq0 : goal.returns-then-pairs-eq0
 returns-then-pairs-eq0 c =
     let a = c.args in

@@ -1,10 +1,10 @@
+-- straddle_words: each shift is the number that is asked for.
 use mathlib.Core.Path.{◌≡◌}
 use Prim.Native.Nat.{ℕ, ◌+◌, ◌≤◌}
 use native.Mathlib.Omega.{arith}
 use native.Mathlib.Nat.{le_antisymm}
 use Rattle.taking.proofs.straddle_words.Goals as goal
 
--- straddle_words: each shift is the number that is asked for.
 -- a number that is not lower and is not k is higher
 past : (k : ℕ) {up : ℕ} → k ≤ up → (up ≡ k → ⊥) → k + 1 ≤ up
 past k low other = omega arith

@@ -1,9 +1,9 @@
+-- raise: one return a test of the definition.
 use native.Mathlib.Omega.{arith}
 use borrow.Author.Tests.{lt-ltb, le-ltb}
 use Rattle.tally.specs.Tally.{ceiling}
 use Rattle.tally.proofs.raise.Goals as goal
 
--- raise: one return a test of the definition.
 pub returns-then-not-one : goal.returns-then-not-one
 returns-then-not-one c = rw (c.if-not-one.true)
 

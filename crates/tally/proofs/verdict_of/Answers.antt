@@ -1,3 +1,4 @@
+-- verdict_of: one return a verdict, in the order of the definition.
 use mathlib.Core.Path.{◌≡◌}
 use mathlib.Core.Bool.{true}
 use lib.Dec.{eqb}
@@ -8,7 +9,6 @@ use Rattle.bits.proofs.Clauses.{answer_means}
 use Rattle.tally.proofs.verdict_of.Goals as goal
 use Rattle.tally.proofs.verdict_of.Goals.{Else-counts-ne0}
 
--- verdict_of: one return a verdict, in the order of the definition.
 -- past the second test a sync was seen and there are no faults
 clear : (c : Else-counts-ne0) → let at = c.args in (at.seen ≡ true) × (eqb at.counts.faults 0 ≡ true)
 clear c = (c.if-not-seen.false, eq-eqb _ _ c.if-counts-ne0.false)

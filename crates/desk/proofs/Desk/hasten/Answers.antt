@@ -1,3 +1,4 @@
+-- hasten: what is skimmed, and then words, few or many, or none.
 use mathlib.Core.Path.{sym}
 use Prim.Native.Nat.{ℕ}
 use lib.ListN.{length-replicate}
@@ -6,7 +7,6 @@ use Rattle.desk.proofs.Skimming.{ahead_then}
 use Rattle.desk.proofs.Desk.hasten.Goals as goal
 use Rattle.desk.proofs.Desk.hasten.Goals.{After-rushed_to-start}
 
--- hasten: what is skimmed, and then words, few or many, or none.
 -- at the place after it was skimmed
 skimmed : (c : After-rushed_to-start)
     → let a = c.args in

@@ -1,3 +1,4 @@
+-- take_refusal: 7 before 1; the two ways past the first test meet.
 use mathlib.Core.Path.{◌≡◌, sym, ◌∙◌}
 use mathlib.Core.Bool.{true, and-false}
 use native.Mathlib.Omega.{arith}
@@ -11,7 +12,6 @@ use Rattle.desk.proofs.Taking.{ended_refusal}
 use Rattle.desk.proofs.Desk.take_refusal.Goals as goal
 use Rattle.desk.proofs.Desk.take_refusal.Goals.{Joined-words_at, then-words_at+else-end-ne0, else-words_at}
 
--- take_refusal: 7 before 1; the two ways past the first test meet.
 -- past the first test no session is wanted, or one is open
 is_open : (c : Joined-words_at)
     → let self = c.args.self in

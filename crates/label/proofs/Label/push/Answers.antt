@@ -1,8 +1,8 @@
+-- push: a full line is left as it is.
 use borrow.Author.Tests.{lt-ltb, le-ltb}
 use Rattle.label.specs.Pushing.{pushed}
 use Rattle.label.proofs.Label.push.Goals as goal
 
--- push: a full line is left as it is.
 pub returns-then-at-ge-ROOM : goal.returns-then-at-ge-ROOM
 unfolding pushed
 returns-then-at-ge-ROOM c = rw (le-ltb _ _ c.if-at-ge-ROOM.true)

@@ -1,3 +1,4 @@
+-- of_wipe_byte: the wipe is judged, then the raster.
 use mathlib.Core.Path.{◌≡◌, sym, ap, ◌∙◌}
 use native.Mathlib.Omega.{arith}
 use borrow.Author.Tests.{le-leb, lt-leb}
@@ -8,7 +9,6 @@ use Rattle.reader.specs.Reader.{of_wipe_byte}
 use Rattle.reader.proofs.Reader.of_wipe_byte.Goals as goal
 use Rattle.reader.proofs.Reader.of_wipe_byte.Goals.{After-raster_of}
 
--- of_wipe_byte: the wipe is judged, then the raster.
 -- what is looked up is the table's
 found : (c : After-raster_of) → c.raster_of.result.refusal ≡ (looked_up c.args.self.options.raster).refusal
 found c = ap (λ (l : LookedUp). l.refusal) c.raster_of.ensures

@@ -1,3 +1,4 @@
+-- begin: the two refusals, and the session of a module that is begun.
 use mathlib.Core.Path.{◌≡◌, sym, ap, ◌∙◌}
 use mathlib.Core.Bool.{true, false, not, ◌&&◌}
 use Rattle.raster.specs.declared.LookedUp.{LookedUp}
@@ -8,7 +9,6 @@ use Rattle.session.proofs.Refusing.{or_not}
 use Rattle.session.proofs.Session.begin.Goals as goal
 use Rattle.session.proofs.Session.begin.Goals.{After-raster_of-looked, Else-self-is_in_range}
 
--- begin: the two refusals, and the session of a module that is begun.
 -- past the first test the session is in range, and no module runs
 idle : (c : Else-self-is_in_range) → let self = c.args.self in (not self.running && in_range self) ≡ true
 idle c =

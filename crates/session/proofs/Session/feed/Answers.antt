@@ -1,3 +1,4 @@
+-- feed: a refusal leaves session and buffers; without one, T and the history are as take_words and history_after want them.
 use mathlib.Core.Path.{◌≡◌, sym, ap, ◌∙◌}
 use mathlib.Core.Bool.{true}
 use native.Mathlib.Omega.{arith}
@@ -12,7 +13,6 @@ use Rattle.session.proofs.Refusing.{fed_by-refused, Ready, ready_raster, ready_h
 use Rattle.session.proofs.Session.feed.Goals as goal
 use Rattle.session.proofs.Session.feed.Goals.{After-raster_of-total, Else-refusal-ne0}
 
--- feed: a refusal leaves session and buffers; without one, T and the history are as take_words and history_after want them.
 -- past the first test there is no refusal
 none : (c : Else-refusal-ne0)
     → let at = c.args in

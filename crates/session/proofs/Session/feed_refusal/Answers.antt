@@ -1,3 +1,4 @@
+-- feed_refusal: the refusals in the order of the definition.
 use mathlib.Core.Path.{◌≡◌, ap}
 use mathlib.Core.Bool.{Bool, true, false, not, ◌&&◌, ◌||◌}
 use lib.Dec.{leb}
@@ -12,7 +13,6 @@ use Rattle.session.proofs.Refusing.{not_or_not}
 use Rattle.session.proofs.Session.feed_refusal.Goals as goal
 use Rattle.session.proofs.Session.feed_refusal.Goals.{After-raster_of-total}
 
--- feed_refusal: the refusals in the order of the definition.
 -- past the first test a module runs and its session is in range
 runs : (self : Session) (fine : Bool) → fine ≡ in_range self → (not self.running || not fine) ≡ false → (self.running && in_range self) ≡ true
 runs self fine e f = rw (← e) (not_or_not self.running fine false f)

@@ -1,3 +1,4 @@
+-- is_in_range: one return a test of the definition.
 use mathlib.Core.Path.{◌≡◌, sym, ap, ◌∙◌}
 use mathlib.Core.Bool.{true}
 use borrow.Author.Tests.{le-leb, lt-leb}
@@ -7,7 +8,6 @@ use Rattle.session.specs.Session.{raster_in, sight_in, in_range}
 use Rattle.session.proofs.Session.is_in_range.Goals as goal
 use Rattle.session.proofs.Session.is_in_range.Goals.{After-sight_in, Else-not-raster_in}
 
--- is_in_range: one return a test of the definition.
 -- past the first test the raster is in range
 raster : (c : Else-not-raster_in) → let self = c.args.self in raster_in self.running self.raster ≡ true
 raster c = sym c.raster_in.ensures ∙ c.if-not-raster_in.false

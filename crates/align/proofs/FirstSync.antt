@@ -2,7 +2,7 @@
 use mathlib.Core.Path.{◌≡◌, refl, sym, ap, subst, ◌∙◌}
 use mathlib.Core.Bool.{Bool, true, false}
 use mathlib.Core.List.{List, [], ◌∷◌, ◌++◌}
-use mathlib.Core.Option.{Option, none, some}
+use Rattle.std.specs.Prelude.{Option, None, Some, option_map, Ok}
 use Prim.Native.Nat.{ℕ, zero, suc, ◌+◌, ◌-◌, ◌*◌, ◌/◌, ◌%◌, ◌≤◌, ◌<◌}
 use native.Mathlib.Omega.{arith}
 use native.Mathlib.Decide.{dec_lt}
@@ -13,11 +13,10 @@ use Rattle.bits.specs.Bits.{◌⊕◌, bits, word_bits, odd}
 use Rattle.bits.specs.Words.{words10}
 use Rattle.bits.proofs.Choice.{false_not_true}
 use Rattle.raster.specs.Layout.{sync_of}
-use Rattle.align.specs.declared.Sync.TheVariants.{Refused, At}
-use Rattle.align.specs.Sync.{starts_with, later, first_place, first_sync, sync_refusal, sync_place, sync_at, found_sync}
+use Rattle.align.specs.Sync.{starts_with, first_place, first_sync, sync_refusal, sync_place, sync_at, found_sync}
 
-pub no_place : {A : Type 0} {n : ℕ} → none ≡ some n → A
-no_place h = let z : ◌≡◌ {A = ℕ} 0 1 = cc in absurd (omega arith)
+pub no_place : {A : Type 0} {n : ℕ} → None ≡ Some n → A
+no_place h = absurd cc
 
 -- ---- starts_with
 
@@ -57,70 +56,69 @@ starts_at (false ∷ ps) (true ∷ bs) h j l = absurd (false_not_true h)
 starts_at (false ∷ ps) (false ∷ bs) h zero l = refl
 starts_at (false ∷ ps) (false ∷ bs) h (suc j) l = starts_at ps bs h j (omega arith)
 
--- ---- later
+-- ---- a place told from earlier bits
 
--- a place told from n bits earlier
+-- from n bits earlier
 abbrev pub after : ℕ → Option ℕ → Option ℕ
-after n none = none
-after n (some p) = some (n + p)
+after n = option_map (λ p. n + p)
 
 pub after_zero : (o : Option ℕ) → after 0 o ≡ o
-after_zero none = refl
-after_zero (some p) = let e : 0 + p ≡ p = omega arith in ap some e
+after_zero None = refl
+after_zero (Some p) = let e : 0 + p ≡ p = omega arith in ap Some e
 
-pub after-later : (n : ℕ) (o : Option ℕ) → after n (later o) ≡ after (suc n) o
-after-later n none = refl
-after-later n (some p) = let e : n + suc p ≡ suc n + p = omega arith in ap some e
+pub after-suc : (n : ℕ) (o : Option ℕ) → after n (option_map suc o) ≡ after (suc n) o
+after-suc n None = refl
+after-suc n (Some p) = let e : n + suc p ≡ suc n + p = omega arith in ap Some e
 
-pub later-after : (n : ℕ) (o : Option ℕ) → later (after n o) ≡ after (suc n) o
-later-after n none = refl
-later-after n (some p) = let e : suc (n + p) ≡ suc n + p = omega arith in ap some e
+pub suc-after : (n : ℕ) (o : Option ℕ) → option_map suc (after n o) ≡ after (suc n) o
+suc-after n None = refl
+suc-after n (Some p) = let e : suc (n + p) ≡ suc n + p = omega arith in ap Some e
 
 -- ---- first_place
 
-pub first_here : (ps : List Bool) (b : Bool) (bs : List Bool) → starts_with ps (b ∷ bs) ≡ true → first_place ps (b ∷ bs) ≡ some 0
+pub first_here : (ps : List Bool) (b : Bool) (bs : List Bool) → starts_with ps (b ∷ bs) ≡ true → first_place ps (b ∷ bs) ≡ Some 0
 unfolding first_place
 first_here ps b bs e = rw e
 
-pub first_there : (ps : List Bool) (b : Bool) (bs : List Bool) → starts_with ps (b ∷ bs) ≡ false → first_place ps (b ∷ bs) ≡ later (first_place ps bs)
+pub first_there : (ps : List Bool) (b : Bool) (bs : List Bool) → starts_with ps (b ∷ bs) ≡ false → first_place ps (b ∷ bs) ≡ option_map suc (first_place ps bs)
 unfolding first_place
 first_there ps b bs e = rw e
 
 -- what holds where the pattern starts, and one bit before a place at which it holds, holds at the first place
 module _ (ps : List Bool) (P : List Bool → ℕ → Type 0) where
   pub first_induction : ((b : Bool) (bs : List Bool) → starts_with ps (b ∷ bs) ≡ true → P (b ∷ bs) 0)
-      → ((b : Bool) (bs : List Bool) (m : ℕ) → starts_with ps (b ∷ bs) ≡ false → first_place ps bs ≡ some m → P bs m → P (b ∷ bs) (suc m))
-      → (bs : List Bool) (n : ℕ) → first_place ps bs ≡ some n → P bs n
+      → ((b : Bool) (bs : List Bool) (m : ℕ) → starts_with ps (b ∷ bs) ≡ false → first_place ps bs ≡ Some m → P bs m → P (b ∷ bs) (suc m))
+      → (bs : List Bool) (n : ℕ) → first_place ps bs ≡ Some n → P bs n
   unfolding first_place
   first_induction here there [] n h = no_place h
   first_induction here there (b ∷ bs) n h = go (starts_with ps (b ∷ bs)) refl h (first_induction here there bs)
     where
-      back : (o : Option ℕ) → starts_with ps (b ∷ bs) ≡ false → first_place ps bs ≡ o → later o ≡ some n
-          → ((m : ℕ) → first_place ps bs ≡ some m → P bs m) → P (b ∷ bs) n
-      back none e f k ih = no_place k
-      back (some m) e f k ih = let z : suc m ≡ n = cc in subst (P (b ∷ bs)) z (there b bs m e f (ih m f))
+      back : (o : Option ℕ) → starts_with ps (b ∷ bs) ≡ false → first_place ps bs ≡ o → option_map suc o ≡ Some n
+          → ((m : ℕ) → first_place ps bs ≡ Some m → P bs m) → P (b ∷ bs) n
+      back None e f k ih = no_place k
+      back (Some m) e f k ih = let z : suc m ≡ n = cc in subst (P (b ∷ bs)) z (there b bs m e f (ih m f))
 
-      go : (t : Bool) → starts_with ps (b ∷ bs) ≡ t → if t (some 0) (later (first_place ps bs)) ≡ some n
-          → ((m : ℕ) → first_place ps bs ≡ some m → P bs m) → P (b ∷ bs) n
+      go : (t : Bool) → starts_with ps (b ∷ bs) ≡ t → if t (Some 0) (option_map suc (first_place ps bs)) ≡ Some n
+          → ((m : ℕ) → first_place ps bs ≡ Some m → P bs m) → P (b ∷ bs) n
       go true e k ih = let z : 0 ≡ n = cc in subst (P (b ∷ bs)) z (here b bs e)
       go false e k ih = back (first_place ps bs) e refl k ih
 
-pub none_cons : (ps : List Bool) (b : Bool) (bs : List Bool) → first_place ps (b ∷ bs) ≡ none → (starts_with ps (b ∷ bs) ≡ false) × (first_place ps bs ≡ none)
+pub none_cons : (ps : List Bool) (b : Bool) (bs : List Bool) → first_place ps (b ∷ bs) ≡ None → (starts_with ps (b ∷ bs) ≡ false) × (first_place ps bs ≡ None)
 unfolding first_place
 none_cons ps b bs h = go (starts_with ps (b ∷ bs)) (first_place ps bs) h
   where
-    go : (t : Bool) (o : Option ℕ) → if t (some 0) (later o) ≡ none → (t ≡ false) × (o ≡ none)
+    go : (t : Bool) (o : Option ℕ) → if t (Some 0) (option_map suc o) ≡ None → (t ≡ false) × (o ≡ None)
     go true o k = no_place (sym k)
-    go false none k = (refl, refl)
-    go false (some m) k = no_place (sym k)
+    go false None k = (refl, refl)
+    go false (Some m) k = no_place (sym k)
 
 -- at the first place the bits start with the pattern
-pub first_starts : (ps bs : List Bool) (n : ℕ) → first_place ps bs ≡ some n → (starts_with ps (drop n bs) ≡ true) × (n < length bs)
+pub first_starts : (ps bs : List Bool) (n : ℕ) → first_place ps bs ≡ Some n → (starts_with ps (drop n bs) ≡ true) × (n < length bs)
 first_starts ps =
     first_induction ps (λ (bs : List Bool) (n : ℕ). (starts_with ps (drop n bs) ≡ true) × (n < length bs))
     (λ b bs e. (e, omega arith)) (λ b bs m e f ih. (ih.0, omega arith))
 
-pub first_is_sync : (ps bs : List Bool) (n : ℕ) → first_place ps bs ≡ some n → (take (length ps) (drop n bs) ≡ ps) × (n + length ps ≤ length bs)
+pub first_is_sync : (ps bs : List Bool) (n : ℕ) → first_place ps bs ≡ Some n → (take (length ps) (drop n bs) ≡ ps) × (n + length ps ≤ length bs)
 first_is_sync ps bs n h =
     let s = first_starts ps bs n h in
     let t = starts_takes ps (drop n bs) s.0 in
@@ -132,14 +130,14 @@ module _ (Q : ℕ → Type 0) where
   below_suc m z s (suc k) h = s k (omega arith)
 
 -- .. and at no place before it
-pub first_is_first : (ps bs : List Bool) (n : ℕ) → first_place ps bs ≡ some n → (k : ℕ) → k < n → starts_with ps (drop k bs) ≡ false
+pub first_is_first : (ps bs : List Bool) (n : ℕ) → first_place ps bs ≡ Some n → (k : ℕ) → k < n → starts_with ps (drop k bs) ≡ false
 first_is_first ps =
     first_induction ps (λ (bs : List Bool) (n : ℕ). (k : ℕ) → k < n → starts_with ps (drop k bs) ≡ false)
     (λ b bs e k h. absurd (omega arith))
     (λ b bs m e f ih. below_suc (λ (k : ℕ). starts_with ps (drop k (b ∷ bs)) ≡ false) m e ih)
 
 -- where none is found, they start with it at no place
-pub none_means_none : (p : Bool) (ps bs : List Bool) → first_place (p ∷ ps) bs ≡ none → (k : ℕ) → starts_with (p ∷ ps) (drop k bs) ≡ false
+pub none_means_none : (p : Bool) (ps bs : List Bool) → first_place (p ∷ ps) bs ≡ None → (k : ℕ) → starts_with (p ∷ ps) (drop k bs) ≡ false
 unfolding starts_with
 none_means_none p ps [] h zero = refl
 none_means_none p ps [] h (suc k) = refl
@@ -147,29 +145,29 @@ none_means_none p ps (b ∷ bs) h zero = (none_cons (p ∷ ps) b bs h).0
 none_means_none p ps (b ∷ bs) h (suc k) = none_means_none p ps bs (none_cons (p ∷ ps) b bs h).1 k
 
 -- a place found stays when bits follow
-pub first_of_append : (ps xs ys : List Bool) (n : ℕ) → first_place ps xs ≡ some n → first_place ps (xs ++ ys) ≡ some n
+pub first_of_append : (ps xs ys : List Bool) (n : ℕ) → first_place ps xs ≡ Some n → first_place ps (xs ++ ys) ≡ Some n
 first_of_append ps xs ys =
-    first_induction ps (λ (xs : List Bool) (n : ℕ). first_place ps (xs ++ ys) ≡ some n)
+    first_induction ps (λ (xs : List Bool) (n : ℕ). first_place ps (xs ++ ys) ≡ Some n)
     (λ b bs e. first_here ps b (bs ++ ys) (starts_decided ps (b ∷ bs) ys (starts_takes ps (b ∷ bs) e).1 ∙ e))
     (λ b bs m e f ih.
     let l = first_is_sync ps bs m f in
-    first_there ps b (bs ++ ys) (starts_decided ps (b ∷ bs) ys (omega arith) ∙ e) ∙ ap later ih)
+    first_there ps b (bs ++ ys) (starts_decided ps (b ∷ bs) ys (omega arith) ∙ e) ∙ ap (option_map suc) ih)
     xs
 
 -- a place found was there before the bits that follow the pattern
-pub first_before_append : (p : Bool) (ps xs ys : List Bool) (n : ℕ) → n + length (p ∷ ps) ≤ length xs → first_place (p ∷ ps) (xs ++ ys) ≡ some n
-    → first_place (p ∷ ps) xs ≡ some n
+pub first_before_append : (p : Bool) (ps xs ys : List Bool) (n : ℕ) → n + length (p ∷ ps) ≤ length xs → first_place (p ∷ ps) (xs ++ ys) ≡ Some n
+    → first_place (p ∷ ps) xs ≡ Some n
 first_before_append p ps xs ys n l h = go (first_place (p ∷ ps) xs) refl
   where
-    go : (o : Option ℕ) → first_place (p ∷ ps) xs ≡ o → first_place (p ∷ ps) xs ≡ some n
-    go none e =
+    go : (o : Option ℕ) → first_place (p ∷ ps) xs ≡ o → first_place (p ∷ ps) xs ≡ Some n
+    go None e =
         absurd
         (false_not_true
         (sym (none_means_none p ps xs e n)
         ∙ sym (starts_decided (p ∷ ps) (drop n xs) ys (omega (arith, length-drop n xs)))
         ∙ ap (starts_with (p ∷ ps)) (sym (drop-append-le n xs ys (omega arith)))
         ∙ (first_starts (p ∷ ps) (xs ++ ys) n h).0))
-    go (some m) e = e ∙ sym (first_of_append (p ∷ ps) xs ys m e) ∙ h
+    go (Some m) e = e ∙ sym (first_of_append (p ∷ ps) xs ys m e) ∙ h
 
 -- a pattern that starts with a one does not start in zeros
 pub first_after_zeros : (ps : List Bool) (n : ℕ) (bs : List Bool)
@@ -178,16 +176,16 @@ unfolding starts_with
 first_after_zeros ps zero bs = sym (after_zero (first_place (true ∷ ps) bs))
 first_after_zeros ps (suc n) bs =
     first_there (true ∷ ps) false (replicate n false ++ bs) refl
-    ∙ ap later (first_after_zeros ps n bs)
-    ∙ later-after n (first_place (true ∷ ps) bs)
+    ∙ ap (option_map suc) (first_after_zeros ps n bs)
+    ∙ suc-after n (first_place (true ∷ ps) bs)
 
 -- fewer bits than the pattern has hold none
-pub first_of_short : (ps bs : List Bool) → length bs < length ps → first_place ps bs ≡ none
+pub first_of_short : (ps bs : List Bool) → length bs < length ps → first_place ps bs ≡ None
 first_of_short ps bs l = go (first_place ps bs) refl
   where
-    go : (o : Option ℕ) → first_place ps bs ≡ o → o ≡ none
-    go none e = refl
-    go (some n) e = let r = first_is_sync ps bs n e in absurd (omega arith)
+    go : (o : Option ℕ) → first_place ps bs ≡ o → o ≡ None
+    go None e = refl
+    go (Some n) e = let r = first_is_sync ps bs n e in absurd (omega arith)
 
 -- ---- a sync's bits
 
@@ -240,38 +238,28 @@ syncs_apart unit bs p q u l s t = near (dec_lt q (p + 3 * unit)) (dec_lt q (p + 
 
 -- ---- sync_at and found_sync
 
-pub sync_place-sync_at : (o : Option ℕ) → sync_place (sync_at o) ≡ o
-sync_place-sync_at none = refl
-sync_place-sync_at (some p) = let e : p / 10 * 10 + p % 10 ≡ p = omega arith in ap some e
-
-pub sync_refusal-sync_at : (o : Option ℕ) → sync_refusal (sync_at o) ≡ 0
-sync_refusal-sync_at none = refl
-sync_refusal-sync_at (some p) = refl
-
-pub found_words : (ws : List ℕ) → words10 ws ≡ true → found_sync ws ≡ sync_at (first_sync ws)
-unfolding found_sync
-found_words ws e = rw e
-
-pub found-refused : (ws : List ℕ) → words10 ws ≡ false → found_sync ws ≡ Refused
-unfolding found_sync
-found-refused ws e = rw e
+pub sync_place-sync_at : (o : Option ℕ) → sync_place (Ok (option_map sync_at o)) ≡ o
+sync_place-sync_at None = refl
+sync_place-sync_at (Some p) = let e : p / 10 * 10 + p % 10 ≡ p = omega arith in ap Some e
 
 pub found_refusal : (ws : List ℕ) → sync_refusal (found_sync ws) ≡ if (words10 ws) 0 3
+unfolding found_sync
 found_refusal ws = go (words10 ws) refl
   where
     go : (b : Bool) → words10 ws ≡ b → sync_refusal (found_sync ws) ≡ if b 0 3
-    go true e = ap sync_refusal (found_words ws e) ∙ sync_refusal-sync_at (first_sync ws)
-    go false e = ap sync_refusal (found-refused ws e)
+    go true e = rw e
+    go false e = rw e
 
-pub found-place : (ws : List ℕ) → sync_place (found_sync ws) ≡ if (words10 ws) (first_sync ws) none
+pub found-place : (ws : List ℕ) → sync_place (found_sync ws) ≡ if (words10 ws) (first_sync ws) None
+unfolding found_sync
 found-place ws = go (words10 ws) refl
   where
-    go : (b : Bool) → words10 ws ≡ b → sync_place (found_sync ws) ≡ if b (first_sync ws) none
-    go true e = ap sync_place (found_words ws e) ∙ sync_place-sync_at (first_sync ws)
-    go false e = ap sync_place (found-refused ws e)
+    go : (b : Bool) → words10 ws ≡ b → sync_place (found_sync ws) ≡ if b (first_sync ws) None
+    go true e = rw e (sync_place-sync_at (first_sync ws))
+    go false e = rw e
 
 -- ---- an example: a sync after thirteen bits of noise
 
-pub noisy_sync : found_sync (0x2a5 ∷ 0x3fa ∷ 0x3ff ∷ 0x007 ∷ 0x000 ∷ 0x000 ∷ 0x000 ∷ 0x1f8 ∷ []) ≡ At 1 3
+pub noisy_sync : found_sync (0x2a5 ∷ 0x3fa ∷ 0x3ff ∷ 0x007 ∷ 0x000 ∷ 0x000 ∷ 0x000 ∷ 0x1f8 ∷ []) ≡ Ok (Some (record { word = 1; bit = 3 }))
 unfolding found_sync first_sync first_place starts_with words10 word_bits bits odd
 noisy_sync = refl

@@ -2,7 +2,7 @@
 use mathlib.Core.Path.{◌≡◌, refl, sym, ap, ap₂, ◌∙◌}
 use mathlib.Core.Bool.{Bool, true, false}
 use mathlib.Core.List.{List, [], ◌∷◌, ◌++◌, append_assoc}
-use mathlib.Core.Option.{Option, none, some}
+use Rattle.std.specs.Prelude.{Option, None, Some, option_map}
 use Prim.Native.Nat.{ℕ, suc, ◌+◌, ◌-◌, ◌*◌, ◌/◌, ◌%◌, ◌≤◌, ◌<◌}
 use native.Mathlib.Omega.{arith}
 use native.Mathlib.Numerals.{add-one}
@@ -15,11 +15,10 @@ use Rattle.bits.specs.Choice.{if}
 use Rattle.bits.specs.Bits.{odd, bits, number, word_bits}
 use Rattle.bits.proofs.Bits.{digit-odd, length-bits, number_half, number_append}
 use Rattle.raster.specs.Layout.{sync_of, hd_unit}
-use Rattle.align.specs.declared.Searched.{Searched}
-use Rattle.align.specs.declared.Searched.TheVariants.{Ends, Last}
-use Rattle.align.specs.Sync.{starts_with, later, first_place, first_sync}
+use Rattle.std.proofs.Common.{ControlFlow, Break, Continue}
+use Rattle.align.specs.Sync.{starts_with, first_place, first_sync}
 use Rattle.align.specs.Search.{slid, searched}
-use Rattle.align.proofs.FirstSync.{no_place, after, after_zero, after-later, first_here, first_there, first_of_short, first_after_zeros}
+use Rattle.align.proofs.FirstSync.{no_place, after, after_zero, after-suc, first_here, first_there, first_of_short, first_after_zeros}
 
 -- ---- searched: a turn of the loop, at the word's lowest bit, and its end
 
@@ -29,7 +28,7 @@ slid-odd l w = ap (λ (d : ℕ). l / 2 + d * 0x800000000000000) (digit-odd w)
 more : (k : ℕ) → k < 10 → 10 - k ≡ suc (10 - (k + 1))
 more k h = omega arith
 
-pub searched_stop : (k l w : ℕ) → k < 10 → l / 2 + w % 2 * 0x800000000000000 ≡ 0xfffff → searched k l (bits (10 - k) w) ≡ Ends k
+pub searched_stop : (k l w : ℕ) → k < 10 → l / 2 + w % 2 * 0x800000000000000 ≡ 0xfffff → searched k l (bits (10 - k) w) ≡ Break k
 unfolding searched bits
 searched_stop k l w h e = rw (more k h, slid-odd l w, eq-eqb (l / 2 + w % 2 * 0x800000000000000) 0xfffff e)
 
@@ -38,32 +37,21 @@ pub searched_step : (k l w : ℕ) → k < 10 → (l / 2 + w % 2 * 0x800000000000
 unfolding searched bits
 searched_step k l w h e = rw (more k h, slid-odd l w, ne_eqb (l / 2 + w % 2 * 0x800000000000000) 0xfffff e, add-one k)
 
-pub searched_end : (k l w : ℕ) → 10 ≤ k → searched k l (bits (10 - k) w) ≡ Last l
+pub searched_end : (k l w : ℕ) → 10 ≤ k → searched k l (bits (10 - k) w) ≡ Continue l
 unfolding searched bits
 searched_end k l w h = let e : 10 - k ≡ 0 = omega arith in rw e
-
--- a sync ends at one of the bits
-pub searched_lt : (k l : ℕ) (bs : List Bool) (e : ℕ) → searched k l bs ≡ Ends e → e < k + length bs
-unfolding searched
-searched_lt k l [] e h = let z : ◌≡◌ {A = ℕ} 0 1 = cc in absurd (omega arith)
-searched_lt k l (b ∷ bs) e h = go (eqb (slid l b) 0xfffff) h (searched_lt (suc k) (slid l b) bs e)
-  where
-    go : (t : Bool) → if t (Ends k) (searched (suc k) (slid l b) bs) ≡ Ends e → (searched (suc k) (slid l b) bs ≡ Ends e → e < suc k + length bs)
-        → e < k + suc (length bs)
-    go true f ih = let z : k ≡ e = cc in omega arith
-    go false f ih = let z = ih f in omega arith
 
 -- ---- ends: the search over a whole stream
 
 -- the bit, counted from k, at which the first sync ends
 abbrev pub ends : ℕ → ℕ → List Bool → Option ℕ
-ends k l [] = none
-ends k l (b ∷ bs) = if (eqb (slid l b) 0xfffff) (some k) (ends (suc k) (slid l b) bs)
+ends k l [] = None
+ends k l (b ∷ bs) = if (eqb (slid l b) 0xfffff) (Some k) (ends (suc k) (slid l b) bs)
 
 -- after some bits, of which n are counted, the answer is found or the rest is searched
-abbrev resumed : ℕ → ℕ → List Bool → Searched → Option ℕ
-resumed k n ys (Ends e) = some (k + e)
-resumed k n ys (Last l) = ends (k + n) l ys
+abbrev resumed : ℕ → ℕ → List Bool → ControlFlow ℕ ℕ → Option ℕ
+resumed k n ys (Break e) = Some (k + e)
+resumed k n ys (Continue l) = ends (k + n) l ys
 
 ends_of_append : (k j l : ℕ) (xs ys : List Bool) → ends (k + j) l (xs ++ ys) ≡ resumed k (j + length xs) ys (searched j l xs)
 unfolding searched
@@ -71,8 +59,8 @@ ends_of_append k j l [] ys = let e : k + j ≡ k + (j + 0) = omega arith in ap (
 ends_of_append k j l (x ∷ xs) ys = go (eqb (slid l x) 0xfffff) (ends_of_append k (suc j) (slid l x) xs ys)
   where
     go : (t : Bool) → ends (k + suc j) (slid l x) (xs ++ ys) ≡ resumed k (suc j + length xs) ys (searched (suc j) (slid l x) xs)
-        → if t (some (k + j)) (ends (suc (k + j)) (slid l x) (xs ++ ys))
-        ≡ resumed k (j + suc (length xs)) ys (if t (Ends j) (searched (suc j) (slid l x) xs))
+        → if t (Some (k + j)) (ends (suc (k + j)) (slid l x) (xs ++ ys))
+        ≡ resumed k (j + suc (length xs)) ys (if t (Break j) (searched (suc j) (slid l x) xs))
     go true ih = refl
     go false ih =
         let e : suc (k + j) ≡ k + suc j = omega arith in
@@ -92,16 +80,16 @@ module _ (ws : List ℕ) (i l : ℕ) (h : i < length ws) where
       ∙ ends_of_append (i * 10) 0 l (bits 10 (get_or ws i 0)) (word_bits (drop (suc i) ws))
       ∙ ap (λ (n : ℕ). resumed (i * 10) n (word_bits (drop (suc i) ws)) (searched 0 l (bits 10 (get_or ws i 0)))) f)
 
-  pub ends_stop : (e : ℕ) → searched 0 l (bits 10 (get_or ws i 0)) ≡ Ends e → ends (i * 10) l (word_bits (drop i ws)) ≡ some (i * 10 + e)
+  pub ends_stop : (e : ℕ) → searched 0 l (bits 10 (get_or ws i 0)) ≡ Break e → ends (i * 10) l (word_bits (drop i ws)) ≡ Some (i * 10 + e)
   ends_stop e s = ends_word ∙ ap (resumed (i * 10) 10 (word_bits (drop (i + 1) ws))) s
 
-  pub ends_step : (m : ℕ) → searched 0 l (bits 10 (get_or ws i 0)) ≡ Last m
+  pub ends_step : (m : ℕ) → searched 0 l (bits 10 (get_or ws i 0)) ≡ Continue m
       → ends (i * 10) l (word_bits (drop i ws)) ≡ ends ((i + 1) * 10) m (word_bits (drop (i + 1) ws))
   ends_step m s =
       let e : i * 10 + 10 ≡ (i + 1) * 10 = omega arith in
       ends_word ∙ ap (resumed (i * 10) 10 (word_bits (drop (i + 1) ws))) s ∙ ap (λ (n : ℕ). ends n m (word_bits (drop (i + 1) ws))) e
 
-pub ends_end : (ws : List ℕ) (i l : ℕ) → i ≡ length ws → ends (i * 10) l (word_bits (drop i ws)) ≡ none
+pub ends_end : (ws : List ℕ) (i l : ℕ) → i ≡ length ws → ends (i * 10) l (word_bits (drop i ws)) ≡ None
 unfolding word_bits
 ends_end ws i l e = rw (e, drop-length)
 
@@ -145,11 +133,11 @@ module _ (ps : List Bool) (sixty : length ps ≡ 60) (low : number ps ≡ 0xffff
       (ends_window bs (v ++ (b ∷ [])) (suc k) (slid l b) (omega (arith, length-append v (b ∷ []))) (slid_half l x v b e f))
     where
       go : (t : Bool) → starts_with ps (x ∷ (v ++ b ∷ bs)) ≡ t → ends (suc k) (slid l b) bs ≡ after (suc k) (first_place ps (v ++ (b ∷ []) ++ bs))
-          → if t (some k) (ends (suc k) (slid l b) bs) ≡ after k (first_place ps (x ∷ (v ++ b ∷ bs)))
-      go true s ih = let z : k ≡ k + 0 = omega arith in ap some z ∙ ap (after k) (sym (first_here ps x (v ++ b ∷ bs) s))
+          → if t (Some k) (ends (suc k) (slid l b) bs) ≡ after k (first_place ps (x ∷ (v ++ b ∷ bs)))
+      go true s ih = let z : k ≡ k + 0 = omega arith in ap Some z ∙ ap (after k) (sym (first_here ps x (v ++ b ∷ bs) s))
       go false s ih =
-          ih ∙ sym (after-later k (first_place ps (v ++ (b ∷ []) ++ bs)))
-          ∙ ap (λ (w : List Bool). after k (later (first_place ps w))) (append_assoc v (b ∷ []) bs)
+          ih ∙ sym (after-suc k (first_place ps (v ++ (b ∷ []) ++ bs)))
+          ∙ ap (λ (w : List Bool). after k (option_map suc (first_place ps w))) (append_assoc v (b ∷ []) bs)
           ∙ ap (after k) (sym (first_there ps x (v ++ b ∷ bs) s))
 
 -- from sixty zeros on, the search ends at the last bit of the first sync
@@ -160,16 +148,16 @@ ends_sync ws =
     ∙ after_zero (first_place (sync_of hd_unit) (replicate 59 false ++ word_bits ws))
     ∙ first_after_zeros (drop 1 (sync_of hd_unit)) 59 (word_bits ws)
 
-pub sync_from_end : (ws : List ℕ) (e : ℕ) → ends 0 0 (word_bits ws) ≡ some e → first_sync ws ≡ some (e - 59)
+pub sync_from_end : (ws : List ℕ) (e : ℕ) → ends 0 0 (word_bits ws) ≡ Some e → first_sync ws ≡ Some (e - 59)
 sync_from_end ws e h = go (first_sync ws) (sym (ends_sync ws) ∙ h)
   where
-    go : (o : Option ℕ) → after 59 o ≡ some e → o ≡ some (e - 59)
-    go none k = no_place k
-    go (some p) k = let z : 59 + p ≡ e = cc in let y : p ≡ e - 59 = omega arith in ap some y
+    go : (o : Option ℕ) → after 59 o ≡ Some e → o ≡ Some (e - 59)
+    go None k = no_place k
+    go (Some p) k = let z : 59 + p ≡ e = cc in let y : p ≡ e - 59 = omega arith in ap Some y
 
-pub sync_from_none : (ws : List ℕ) → ends 0 0 (word_bits ws) ≡ none → first_sync ws ≡ none
+pub sync_from_none : (ws : List ℕ) → ends 0 0 (word_bits ws) ≡ None → first_sync ws ≡ None
 sync_from_none ws h = go (first_sync ws) (sym (ends_sync ws) ∙ h)
   where
-    go : (o : Option ℕ) → after 59 o ≡ none → o ≡ none
-    go none k = refl
-    go (some p) k = no_place (sym k)
+    go : (o : Option ℕ) → after 59 o ≡ None → o ≡ None
+    go None k = refl
+    go (Some p) k = no_place (sym k)

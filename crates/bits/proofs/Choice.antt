@@ -1,10 +1,11 @@
 -- Laws of Bool and of a case by a test.
 use mathlib.Core.Path.{◌≡◌, refl, sym}
 use mathlib.Core.Bool.{Bool, true, false, ◌&&◌, ◌||◌, false≢true}
-use Prim.Native.Nat.{ℕ, suc, ◌≤◌}
+use Prim.Native.Nat.{ℕ, zero, suc, ◌≤◌}
 use native.Mathlib.Omega.{arith}
 use mir.Val.{bool_byte}
-use Rattle.bits.specs.Choice.{if}
+use Rattle.std.specs.Prelude.{Some}
+use Rattle.bits.specs.Choice.{if, unless_zero}
 
 pub false_not_true : false ≡ true → ⊥
 false_not_true e = false≢true e
@@ -45,3 +46,7 @@ by_three P p0 p1 p2 p3 p4 p5 p6 p7 true false false = p4
 by_three P p0 p1 p2 p3 p4 p5 p6 p7 true false true = p5
 by_three P p0 p1 p2 p3 p4 p5 p6 p7 true true false = p6
 by_three P p0 p1 p2 p3 p4 p5 p6 p7 true true true = p7
+
+pub some_unless_zero : (n : ℕ) → 1 ≤ n → unless_zero n ≡ Some n
+some_unless_zero zero h = absurd (omega arith)
+some_unless_zero (suc n) h = refl

@@ -4,11 +4,10 @@ use mathlib.Core.Bool.{Bool, true, false, not, ◌&&◌, and-true}
 use mathlib.Core.List.{List, [], ◌∷◌, ◌++◌}
 use Prim.Native.Nat.{ℕ, zero, suc, ◌+◌, ◌/◌, ◌%◌, ◌≤◌, ◌<◌}
 use native.Mathlib.Omega.{arith}
-use native.Mathlib.Numerals.{add-one}
 use native.Mathlib.Decide.{dec_le}
 use lib.Dec.{leb, ltb}
 use lib.ListN.{length, get_or, take, drop, set, replicate}
-use lib.Seq.{drop-cons, drop-length}
+use Rattle.std.specs.List.{fold}
 use borrow.Author.Tests.{lt-ltb, le-ltb, le-leb, lt-leb, leb-true}
 use Rattle.bits.specs.Choice.{if}
 use Rattle.bits.specs.Bits.{odd, digit}
@@ -16,21 +15,17 @@ use Rattle.bits.specs.Words.{words10, reserved_code, nine_of}
 use Rattle.bits.proofs.Choice.{if_true, false_not_true}
 use Rattle.bits.proofs.Bits.{digit-odd}
 
--- ---- words10: a step of a loop that looks at every word, and its end
+-- ---- words10
 
-pub words10_step : (all : Bool) (i : ℕ) (ws : List ℕ) → i < length ws
-    → (all && leb (get_or ws i 0) 0x3ff && words10 (drop (i + 1) ws)) ≡ (all && words10 (drop i ws))
+pub words10_fold : (all : Bool) (ws : List ℕ) → fold (λ a w. a && leb w 0x3ff) all ws ≡ (all && words10 ws)
 unfolding words10
-words10_step all i ws h = rw (add-one, drop-cons ws i 0) (go all (leb (get_or ws i 0) 0x3ff) (words10 (drop (suc i) ws)))
+words10_fold all [] = sym (and-true all)
+words10_fold all (w ∷ ws) = words10_fold (all && leb w 0x3ff) ws ∙ go all (leb w 0x3ff) (words10 ws)
   where
     go : (a b c : Bool) → (a && b && c) ≡ (a && if b c false)
     go true true c = refl
     go true false c = refl
     go false b c = refl
-
-pub words10_end : (all : Bool) (i : ℕ) (ws : List ℕ) → i ≡ length ws → (all && words10 (drop i ws)) ≡ all
-unfolding words10
-words10_end all i ws e = rw (e, drop-length, and-true)
 
 pub words10_nil : (ws : List ℕ) → ws ≡ [] → words10 ws ≡ true
 unfolding words10

@@ -8,29 +8,19 @@ ghost use Rattle.bits.specs.Words.{words10, reserved_code, nine_of};
 pub fn all_words(words: &[u16]) -> bool
     ensures { result ≡ words10 words.now }
 {
-    let mut all = true;
-    let mut i = 0;
-    while i < words.len() {
-        all = all & (words[i] <= 0x3ff);
-        i += 1;
-    }
-    all
+    words.iter().fold(true, |all, word| all & (*word <= 0x3ff))
 }
 
 // Whether a word is a reserved code.
+#[tactic(auto, unfolding(crate::specs::Words::reserved_code))]
 pub fn reserved(word: u16) -> bool
     ensures { result ≡ reserved_code word }
 {
-    if word <= 0x003 {
-        return true;
-    }
-    if 0x3fc <= word {
-        return word <= 0x3ff;
-    }
-    false
+    matches!(word, 0x000..=0x003 | 0x3fc..=0x3ff)
 }
 
 // The low nine bits of `n`, with bit 9 the inverse of bit 8.
+#[tactic(auto, unfolding(crate::specs::Words::nine_of, crate::specs::Bits::odd))]
 pub fn nine(n: u16) -> u16
     ensures { result ≡ nine_of n }
 {

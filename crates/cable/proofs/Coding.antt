@@ -1,20 +1,21 @@
--- What scrambling and unscrambling share: the words of coded bits, the next history, and a loop that fills an output with the words.
+-- What scrambling and unscrambling share: the words of coded bits, the next history, and the steps of a loop.
 use mathlib.Core.Path.{◌≡◌, refl, sym, ap, ap₂, subst, ◌∙◌}
 use mathlib.Core.Bool.{Bool, true}
 use mathlib.Core.List.{List, [], ◌∷◌, ◌++◌, reverse, reverse_aux, append-nil}
 use Prim.Native.Nat.{ℕ, zero, suc, ◌+◌, ◌-◌, ◌%◌, ◌^◌, ◌≤◌, ◌<◌}
 use native.Mathlib.Omega.{arith}
 use native.Mathlib.Numerals.{add-one}
-use native.Mathlib.Nat.{mod-eq_of_lt}
-use lib.ListN.{length, get_or, take, drop, set, length-append, length-set}
-use lib.Seq.{take_at, drop_at, drop-cons, drop-append-add, take-length, drop-length}
+use native.Mathlib.Nat.{mod-eq_of_lt, le_of_lt}
+use lib.ListN.{length, get_or, take, drop, set, length-append}
+use lib.Seq.{take_at, drop_at, drop-cons, drop-append-add, take-suc, take-length, set_at, append_snoc, length-take-le}
 use Rattle.bits.specs.Bits.{bits, number, word_bits}
 use Rattle.bits.specs.Words.{words10}
 use Rattle.bits.proofs.Bits.{bits-number, length-bits, number-bits, number_lt}
-use Rattle.bits.proofs.Lists.{cons_equal, fill_step, head_of_drop, tail_of_drop}
-use Rattle.bits.proofs.Words.{words10_nil, words10_cons}
+use Rattle.bits.proofs.Lists.{cons_equal}
+use Rattle.bits.proofs.Words.{words10_nil, words10_cons, words10_head, words10_tail}
 use Rattle.cable.specs.Bits.{past}
 use Rattle.cable.specs.Words.{grouped, last_ten, filled}
+use Rattle.cable.specs.Stepwise.{Stepwise, none, more}
 use Rattle.cable.proofs.Bits.{Code, BitCode, Bitwise, length_code, code_of_append, code_of_agree, agree_last}
 
 -- ---- ten bits
@@ -82,18 +83,7 @@ pub record Coding (code cable : Code) (bit joins : BitCode) (on : ℕ → ℕ �
   pub made : Bitwise code bit joins
   pub sent : Bitwise cable joins joins
   pub on_bits : (h w : ℕ) → bits 10 (on h w) ≡ cable (past h) (bits 10 w)
-
--- a loop at the word i, after the history h: what is left gives the rest of the result
-pub record Filling (words : ℕ → List ℕ → List ℕ) (next : ℕ → List ℕ → ℕ) (history : ℕ) (ws out₀ : List ℕ) (h i : ℕ) (out : List ℕ) : Type 0 where
-  pub inside : i ≤ length ws
-  pub low : h ≤ 0x3ff
-  pub next-left : next h (drop i ws) ≡ next history ws
-  pub left : words h (drop i ws) ≡ drop i (words history ws)
-  pub out_now : out ≡ take i (words history ws) ++ drop i out₀
-  pub out_length : length out ≡ length out₀
-
-pub filling_start : (words : ℕ → List ℕ → List ℕ) (next : ℕ → List ℕ → ℕ) (history : ℕ) (ws out : List ℕ) → history ≤ 0x3ff → Filling words next history ws out history 0 out
-filling_start words next history ws out l = record { inside = omega arith; low = l; next-left = refl; left = refl; out_now = refl; out_length = refl }
+  pub on_range : (h w : ℕ) → w ≤ 0x3ff → on h w ≤ 0x3ff
 
 module _ {code cable : Code} {bit joins : BitCode} {on : ℕ → ℕ → ℕ} (c : Coding code cable bit joins on) where
   -- ---- words: ten cable bits are all that those after a word look back on
@@ -156,35 +146,49 @@ module _ {code cable : Code} {bit joins : BitCode} {on : ℕ → ℕ → ℕ} (c
   next_of_append [] vs h = rw (next_nil h, past_of_mod h, bits_of_mod h)
   next_of_append (w ∷ ws) vs h = rw (next_step h w (ws ++ vs), next_step h w ws) (next_of_append ws vs (on h w))
 
-  -- ---- a turn of a loop, and its end
+  -- ---- step by step
 
-  words_at : (h i : ℕ) (ws : List ℕ) → i < length ws → words_of code h (drop i ws) ≡ word_of code h (get_or ws i 0) ∷ words_of code (on h (get_or ws i 0)) (drop (i + 1) ws)
-  words_at h i ws l = rw (add-one, drop-cons ws i 0) (words_step h (get_or ws i 0) (drop (suc i) ws))
+  pub stepwise_is : {step : ℕ → ℕ → ℕ × ℕ → Type 0} {h last : ℕ} {ws vs : List ℕ} → Stepwise step h ws vs last
+      → ((h w : ℕ) (r : ℕ × ℕ) → step h w r → r ≡ (word_of code h w, on h w)) → h ≤ 0x3ff → words10 ws ≡ true
+      → (last ≡ next_of cable h ws) × (vs ≡ words_of code h ws)
+  stepwise_is {h = h} none is low tens = (sym (next_none h low), sym (words_nil h))
+  stepwise_is (more {h} {w} {v} {next} {last} {ws} {vs} s rest) is low tens =
+      let e = is h w (v, next) s in
+      let here : next ≡ on h w = ap (λ (r : ℕ × ℕ). r.1) e in
+      let ih = stepwise_is rest is (rw here (c.on_range h w (words10_head w ws tens))) (words10_tail w ws tens) in
+      (ih.0 ∙ rw here (sym (next_step h w ws)), cons_equal (ap (λ (r : ℕ × ℕ). r.0) e) (ih.1 ∙ rw here) ∙ sym (words_step h w ws))
 
-  next_at : (h i : ℕ) (ws : List ℕ) → i < length ws → next_of cable h (drop i ws) ≡ next_of cable (on h (get_or ws i 0)) (drop (i + 1) ws)
-  next_at h i ws l = rw (add-one, drop-cons ws i 0) (next_step h (get_or ws i 0) (drop (suc i) ws))
+  -- the output of a loop of such steps
+  pub filled_stepwise : {step : ℕ → ℕ → ℕ × ℕ → Type 0} {h last : ℕ} {ws out₀ out : List ℕ}
+      → (made : List ℕ) × Stepwise step h ws made last × (out ≡ filled 0 made out₀)
+      → ((h w : ℕ) (r : ℕ × ℕ) → step h w r → r ≡ (word_of code h w, on h w)) → h ≤ 0x3ff → words10 ws ≡ true
+      → (last ≡ next_of cable h ws) × (out ≡ filled 0 (words_of code h ws) out₀)
+  filled_stepwise {out₀ = out₀} (made, s, e) is low tens =
+      let r = stepwise_is s is low tens in
+      (r.0, e ∙ ap (λ (l : List ℕ). filled 0 l out₀) r.1)
 
-  -- the turn's history g and word v
-  pub filling_step : {history : ℕ} {ws out₀ : List ℕ} {h i : ℕ} {out : List ℕ} {g v : ℕ} → Filling (words_of code) (next_of cable) history ws out₀ h i out
-      → i < length ws → i < length out₀ → g ≡ on h (get_or ws i 0) → v ≡ word_of code h (get_or ws i 0) → g ≤ 0x3ff
-      → Filling (words_of code) (next_of cable) history ws out₀ g (i + 1) (set out i v)
-  filling_step {history} {ws} {out₀} {h} {i} {out} {g} {v} f l room eg ev r =
-      let R = words_of code history ws in
-      let lr : i < length R = omega (arith, length_words history ws) in
-      let rest = sym f.left ∙ words_at h i ws l in
-      record {
-        inside = omega arith;
-        low = r;
-        next-left = rw eg (sym (next_at h i ws l) ∙ f.next-left);
-        left = rw eg (sym (tail_of_drop R i _ _ lr rest));
-        out_now = ap₂ (λ (o : List ℕ) (x : ℕ). set o i x) f.out_now (ev ∙ sym (head_of_drop R i _ _ lr rest)) ∙ fill_step R out₀ i lr room;
-        out_length = simp length-set f.out_length;
-      }
+-- ---- a loop of steps: a turn, and its end
 
-  pub filling_end : {history : ℕ} {ws out₀ : List ℕ} {h i : ℕ} {out : List ℕ} → Filling (words_of code) (next_of cable) history ws out₀ h i out
-      → i ≡ length ws → (h ≡ next_of cable history ws) × (out ≡ filled 0 (words_of code history ws) out₀)
-  filling_end {history} {ws} {out₀} {h} {i} {out} f e =
-      let R = words_of code history ws in
-      let er : i ≡ length R = e ∙ sym (length_words history ws) in
-      let none : drop i ws ≡ [] = rw e (drop-length ws) in
-      (sym (next_none h f.low) ∙ ap (next_of cable h) (sym none) ∙ f.next-left, f.out_now ∙ rw (er, take-length R))
+module _ {step : ℕ → ℕ → ℕ × ℕ → Type 0} where
+  length_stepwise : {h last : ℕ} {ws vs : List ℕ} → Stepwise step h ws vs last → length vs ≡ length ws
+  length_stepwise none = refl
+  length_stepwise (more s rest) = ap suc (length_stepwise rest)
+
+  stepwise_snoc : {h mid : ℕ} {ws vs : List ℕ} {w v last : ℕ} → Stepwise step h ws vs mid → step mid w (v, last) → Stepwise step h (ws ++ w ∷ []) (vs ++ v ∷ []) last
+  stepwise_snoc none s = more s none
+  stepwise_snoc (more t rest) s = more t (stepwise_snoc rest s)
+
+  pub stepwise_turn : {h mid : ℕ} (ws out₀ : List ℕ) {out : List ℕ} (i : ℕ) {v next : ℕ}
+      → (made : List ℕ) × Stepwise step h (take i ws) made mid × (out ≡ made ++ drop i out₀) → i < length ws → i < length out₀ → step mid (get_or ws i 0) (v, next)
+      → (made : List ℕ) × Stepwise step h (take (i + 1) ws) made next × (set out i v ≡ made ++ drop (i + 1) out₀)
+  stepwise_turn ws out₀ i {v} (made, s, e) l room t =
+      let n : length made ≡ i = length_stepwise s ∙ length-take-le i ws (le_of_lt l) in
+      let written = set_at made (get_or out₀ i 0) (drop (suc i) out₀) v i n ∙ sym (append_snoc made v (drop (suc i) out₀)) in
+      (made ++ v ∷ [], rw (add-one i, take-suc ws i 0 l) (stepwise_snoc s t), rw (e, add-one i, drop-cons out₀ i 0 room) written)
+
+  pub stepwise_end : {h last : ℕ} (ws out₀ : List ℕ) {out : List ℕ} (i : ℕ)
+      → (made : List ℕ) × Stepwise step h (take i ws) made last × (out ≡ made ++ drop i out₀) → i ≡ length ws
+      → (made : List ℕ) × Stepwise step h ws made last × (out ≡ filled 0 made out₀)
+  stepwise_end ws out₀ i (made, s, e) f =
+      let all = rw (f, take-length ws) at s in
+      (made, all, e ∙ rw (f, length_stepwise all))

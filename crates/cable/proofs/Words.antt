@@ -13,21 +13,20 @@ use Rattle.bits.specs.Words.{words10}
 use Rattle.bits.proofs.Choice.{if_zero}
 use Rattle.bits.proofs.Bits.{number-bits}
 use Rattle.cable.specs.Bits.{scrambled, unscrambled, past}
-use Rattle.cable.specs.declared.Coded.{Coded}
-use Rattle.cable.specs.Words.{scramble_words, unscramble_words, scramble_word, unscramble_word, last_ten, scramble_next, unscramble_next, code_refusal, coded, filled}
+use Rattle.cable.specs.Words.{scramble_words, unscramble_words, scramble_word, unscramble_word, last_ten, scramble_next, unscramble_next, code_refusal, filled}
 use Rattle.bits.proofs.Lists.{cons_equal}
 use Rattle.bits.proofs.Words.{words10_head, words10_tail}
 use Rattle.cable.proofs.Bits.{cable_bit, data_bit, taken_bit, taken, scrambled_bitwise, unscrambled_bitwise, taken_bitwise, unscrambled_of_scrambled, unscrambled_from_eleventh}
-use Rattle.cable.proofs.Coding.{Coding, word_bits_are, words_nil, words_step, length_words, words_range, words_bits, next_none, next_step, next_range, words_of_append, next_of_append}
+use Rattle.cable.proofs.Coding.{Coding, word_bits_are, word_range, words_nil, words_step, length_words, words_range, words_bits, next_none, next_step, next_range, words_of_append, next_of_append}
 
 -- ---- the two codings: the history after a word is the word made, or the word taken
 
 pub scrambling : Coding scrambled scrambled cable_bit cable_bit scramble_word
 unfolding scramble_word
-scrambling = record { made = scrambled_bitwise; sent = scrambled_bitwise; on_bits = word_bits_are scrambled_bitwise }
+scrambling = record { made = scrambled_bitwise; sent = scrambled_bitwise; on_bits = word_bits_are scrambled_bitwise; on_range = λ h w _. word_range scrambled_bitwise h w }
 
 pub unscrambling : Coding unscrambled taken data_bit taken_bit (λ (h w : ℕ). w)
-unscrambling = record { made = unscrambled_bitwise; sent = taken_bitwise; on_bits = λ h w. refl }
+unscrambling = record { made = unscrambled_bitwise; sent = taken_bitwise; on_bits = λ h w. refl; on_range = λ h w low. low }
 
 pub scramble_nil : (h : ℕ) → scramble_words h [] ≡ []
 unfolding scramble_words
@@ -138,17 +137,10 @@ unscramble_from_eleventh g h ws =
 
 -- ---- refusals
 
--- "A refusal returns its number with zeros .. and changes no buffer"
-pub coded-refused : (n next : ℕ) → (n ≡ 0 → ⊥) → ◌≡◌ {A = Coded} (record { refusal = n; history = 0 }) (coded n next)
-coded-refused zero next h = absurd (h refl)
-coded-refused (suc n) next h = refl
-
+-- "A refusal .. changes no buffer"
 pub filled-refused : (n : ℕ) (result out : List ℕ) → (n ≡ 0 → ⊥) → out ≡ filled n result out
 filled-refused zero result out h = absurd (h refl)
 filled-refused (suc n) result out h = refl
-
-pub code_refused : {n m : ℕ} (next : ℕ) (result out : List ℕ) → (n ≡ 0 → ⊥) → n ≡ m → ◌≡◌ {A = Coded} (record { refusal = n; history = 0 }) (coded m next) × (out ≡ filled m result out)
-code_refused {n} next result out h e = (coded-refused n next h ∙ ap (λ (k : ℕ). coded k next) e, filled-refused n result out h ∙ ap (λ (k : ℕ). filled k result out) e)
 
 -- no refusal: history and words are of ten bits, and the output has the room
 pub code_refusal_none : (h : ℕ) (ws : List ℕ) (room : ℕ) → code_refusal h ws room ≡ 0 → (h ≤ 0x3ff) × (words10 ws ≡ true) × (length ws ≤ room)

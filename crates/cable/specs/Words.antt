@@ -1,9 +1,10 @@
 -- Scrambling and unscrambling of words.
-use Rattle.std.specs.Prelude.{Bool, List, [], ◌∷◌, ◌++◌, ℕ, zero, suc, ◌-◌, leb, length, take, drop}
+use Rattle.std.specs.Prelude.{Bool, List, [], ◌∷◌, ◌++◌, ℕ, zero, suc, ◌-◌, leb, length, take, drop, Result}
 use Rattle.bits.specs.Choice.{if}
 use Rattle.bits.specs.Bits.{bits, number, word_bits}
 use Rattle.bits.specs.Words.{words10}
-use Rattle.cable.specs.declared.Coded.{Coded}
+use Rattle.refusal.specs.declared.Refusal.{Refusal}
+use Rattle.refusal.specs.Refusal.{result_of}
 use Rattle.cable.specs.Bits.{scrambled, unscrambled, past}
 
 -- ten bits at a time, k words
@@ -45,10 +46,9 @@ unscramble_next h ws = last_ten (bits 10 h ++ word_bits ws)
 unfoldable pub code_refusal : ℕ → List ℕ → ℕ → ℕ
 code_refusal h ws room = if (leb h 0x3ff) (if (words10 ws) (if (leb (length ws) room) 0 1) 3) 3
 
--- "A refusal returns its number with zeros": the answer for a refusal and the next history
-abbrev pub coded : ℕ → ℕ → Coded
-coded zero next = record { refusal = 0; history = next }
-coded (suc n) next = record { refusal = suc n; history = 0 }
+-- the answer for a refusal and the next history
+abbrev pub coded : ℕ → ℕ → Result ℕ Refusal
+coded = result_of
 
 -- ".. changes no buffer ..", "Beyond what a result fills, a buffer keeps what it held."
 abbrev pub filled : ℕ → List ℕ → List ℕ → List ℕ

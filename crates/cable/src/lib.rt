@@ -1,21 +1,19 @@
 // Cable bits: scrambling and unscrambling, a word at a time.
 #![tactic(auto)]
 
-ghost use Rattle.std.specs.Prelude.{◌≡◌, true, ◌/◌, ◌≤◌, ◌<◌, length};
+ghost use Rattle.std.specs.Prelude.{◌≡◌, ℕ, List, ◌/◌, ◌≤◌, ◌<◌, length};
 ghost use Rattle.bits.specs.Bits.{odd, bits, number};
-ghost use Rattle.bits.specs.Words.{words10};
+ghost use Rattle.refusal.specs.Refusal.{result_of};
 ghost use Rattle.cable.specs.Bits.{levels, past, scrambler, nrzi};
 ghost use Rattle.cable.specs.Words.{scramble_word, unscramble_word, scramble_words, unscramble_words, scramble_next, unscramble_next, code_refusal, coded, filled};
+ghost use Rattle.cable.specs.Stepwise.{Stepwise};
 
-#[derive(Clone, Copy)]
-pub struct Coded {
-    pub refusal: u8,
-    pub history: u16,
-}
+use refusal::Refusal;
 
 // Ten data bits from ten cable bits after a history: with x for one bit before, d = (1 + x)(1 + x^5 + x^9), so each factor is applied to the ten
 // bits of the word, and to those of the history for the bits that look back. All fits sixteen bits, so that a loop over words takes many at once;
 // what a shift leaves above the tenth bit is cut off once, at the end.
+#[tactic(auto, using(crate::proofs::Codes::unscramble_code))]
 pub fn unscramble_word(history: u16, word: u16) -> u16
     ensures { result ≡ unscramble_word history word }
 {
@@ -26,6 +24,7 @@ pub fn unscramble_word(history: u16, word: u16) -> u16
 }
 
 // The scrambled bits of ten data bits, five at a time: the first five look back into the history alone, the others into those.
+#[tactic(auto, using(crate::proofs::Codes::scrambler_code))]
 fn scrambled_bits(history: u16, word: u16) -> u32
     ensures { result ≡ number (scrambler (levels (past history)) (bits 10 word)) }
 {
@@ -38,6 +37,7 @@ fn scrambled_bits(history: u16, word: u16) -> u32
 }
 
 // NRZI of the ten bits above the lowest, after the lowest: a running xor, by doubling.
+#[tactic(auto, using(crate::proofs::Codes::running_code))]
 fn running(x: u32) -> u32
     ensures { result ≡ number (nrzi (odd x) (bits 10 (x / 2))) }
 {
@@ -50,6 +50,7 @@ fn running(x: u32) -> u32
 }
 
 // Ten cable bits from ten data bits after a history.
+#[tactic(auto, using(crate::proofs::Codes::scramble_code, crate::proofs::Codes::scrambler_lt, crate::proofs::Codes::running_lt))]
 fn scramble_word(history: u16, word: u16) -> u16
     ensures { result ≡ scramble_word history word }
 {
@@ -59,86 +60,56 @@ fn scramble_word(history: u16, word: u16) -> u16
 }
 
 // The refusal of scrambling and unscrambling: 3, then 1.
-fn code_refusal(history: u16, words: &[u16], room: usize) -> u8
-    ensures { result ≡ code_refusal history words.now room }
+#[tactic(auto, unfolding(crate::specs::Words::code_refusal, refusal::specs::Refusal::refusal_numbered))]
+fn code_refusal(history: u16, words: &[u16], room: usize) -> Result<(), Refusal>
+    ensures { result ≡ result_of (code_refusal history words.now room) tt }
 {
-    if history > 0x3ff {
-        return 3;
+    if history > 0x3ff || !bits::all_words(words) {
+        return Err(Refusal::TooHigh);
     }
-    if !bits::all_words(words) {
-        return 3;
+    if words.len() > room {
+        return Err(Refusal::NoRoom);
     }
-    if words.len() <= room {
-        return 0;
-    }
-    1
+    Ok(())
 }
 
-// Scrambles into an output that has the room, and answers the next history.
-fn scramble_all(history: u16, words: &[u16], out: &mut [u16]) -> u16
-    requires { (history < 1024) × (length words.now ≤ length out.old) }
-    ensures { (result ≡ scramble_next history words.now) × (out.new ≡ filled 0 (scramble_words history words.now) out.old) }
+// Codes words, one after the other, into an output that has the room, and answers the next history. A step makes of a history and a word the word
+// that is written and the history after it.
+fn code<F: Fn(u16, u16) -> (u16, u16)>(history: u16, words: &[u16], out: &mut [u16], step: F) -> u16
+    requires callable { F.IsAlwaysCallable step }
+    requires room { length words.now ≤ length out.old }
+    ensures { (made : List ℕ) × Stepwise (F.post step) history words.now made result × (out.new ≡ filled 0 made out.old) }
 {
     let mut h = history;
-    let mut i = 0;
-    while i < words.len() {
-        h = scramble_word(h, words[i]);
-        out[i] = h;
-        i += 1;
-    }
-    h
-}
-
-// Unscrambles into an output that has the room, and answers the next history.
-fn unscramble_all(history: u16, words: &[u16], out: &mut [u16]) -> u16
-    requires { (history < 1024) × (words10 words.now ≡ true) × (length words.now ≤ length out.old) }
-    ensures { (result ≡ unscramble_next history words.now) × (out.new ≡ filled 0 (unscramble_words history words.now) out.old) }
-{
-    let mut h = history;
-    let mut i = 0;
-    while i < words.len() {
-        let w = words[i];
-        out[i] = unscramble_word(h, w);
-        h = w;
-        i += 1;
+    // by index, since what is written through a `zip` with `iter_mut` is lost to a proof
+    for (i, word) in words.iter().enumerate() {
+        (out[i], h) = step(h, *word);
     }
     h
 }
 
 // Scrambles words, in the order in which they are sent (C, Y, C, Y ..), after a history; 3, 1.
-pub fn scramble(history: u16, words: &[u16], out: &mut [u16]) -> Coded
+pub fn scramble(history: u16, words: &[u16], out: &mut [u16]) -> Result<u16, Refusal>
     ensures answer { result ≡ coded (code_refusal history words.now (length out.old)) (scramble_next history words.now) }
     ensures output { out.new ≡ filled (code_refusal history words.now (length out.old)) (scramble_words history words.now) out.old }
 {
-    let refusal = code_refusal(history, words, out.len());
-    if refusal != 0 {
-        return Coded {
-            refusal,
-            history: 0,
-        };
-    }
-    let next = scramble_all(history, words, out);
-    Coded {
-        refusal: 0,
-        history: next,
-    }
+    code_refusal(history, words, out.len())?;
+    Ok(code(history, words, out, |h, word| {
+        let cable = scramble_word(h, word);
+        (cable, cable)
+    }))
 }
 
 // Unscrambles words, in the order in which they came, after a history; 3, 1.
-pub fn unscramble(history: u16, words: &[u16], out: &mut [u16]) -> Coded
+pub fn unscramble(history: u16, words: &[u16], out: &mut [u16]) -> Result<u16, Refusal>
     ensures answer { result ≡ coded (code_refusal history words.now (length out.old)) (unscramble_next history words.now) }
     ensures output { out.new ≡ filled (code_refusal history words.now (length out.old)) (unscramble_words history words.now) out.old }
 {
-    let refusal = code_refusal(history, words, out.len());
-    if refusal != 0 {
-        return Coded {
-            refusal,
-            history: 0,
-        };
-    }
-    let next = unscramble_all(history, words, out);
-    Coded {
-        refusal: 0,
-        history: next,
-    }
+    code_refusal(history, words, out.len())?;
+    Ok(code(
+        history,
+        words,
+        out,
+        |h, word| (unscramble_word(h, word), word),
+    ))
 }

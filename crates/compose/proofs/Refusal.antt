@@ -1,25 +1,25 @@
 -- Laws of the refusal of building: what a row that is built is built from.
-use mathlib.Core.Path.{◌≡◌, refl}
+use mathlib.Core.Path.{◌≡◌}
 use mathlib.Core.Bool.{true, ◌&&◌, and_assoc}
 use mathlib.Core.List.{List}
-use Prim.Native.Nat.{ℕ, zero, suc, ◌≤◌}
+use Prim.Native.Nat.{ℕ, ◌≤◌, ◌<◌}
+use native.Mathlib.Omega.{arith}
 use lib.Dec.{leb, eqb}
 use lib.ListN.{length}
 use borrow.Author.Tests.{eqb-true, leb-true}
 use Rattle.bits.specs.Choice.{if}
 use Rattle.bits.specs.Words.{words10}
 use Rattle.bits.proofs.Choice.{and-true, if_zero}
+use Rattle.refusal.proofs.Answers.{if_below}
 use Rattle.raster.specs.Lines.{line_refusal}
-use Rattle.parts.specs.Parts.{laid_unless}
+use Rattle.raster.proofs.Lines.{line_refusal_below}
 use Rattle.plan.specs.declared.Plan.{Plan}
 use Rattle.plan.specs.Fits.{Fits}
 use Rattle.plan.specs.Plan.{plan_of}
 use Rattle.plan.proofs.Plans.{plan_of-fits}
-use Rattle.plan.proofs.Rows.{or_refusal_first, or_refusal_none}
-use Rattle.row.specs.declared.Carry.{Carry}
-use Rattle.row.specs.declared.Carry.TheVariants.{Nothing}
-use Rattle.row.specs.Before.{carry_ok}
-use Rattle.compose.specs.Compose.{lengths_ok, room_ok, refusal_under, build_refusal, built_for}
+use Rattle.plan.proofs.Rows.{or_refusal_below, or_refusal_first, or_refusal_none}
+use Rattle.row.specs.Before.{Carry, carry_ok}
+use Rattle.compose.specs.Compose.{lengths_ok, room_ok, refusal_under, build_refusal}
 
 -- ---- lengths_ok
 
@@ -50,6 +50,12 @@ module _ (code line : ℕ) (carry : Carry) (y_active c_active y_laid c_laid : Li
       → build_refusal code line carry y_active c_active y_laid c_laid y_room c_room ≡ refusal_under p carry y_active c_active y_laid c_laid y_room c_room
   unfolding build_refusal
   build_refusal_under p e ok = rw (ok, e)
+
+  pub build_refusal_below : build_refusal code line carry y_active c_active y_laid c_laid y_room c_room < 8
+  unfolding build_refusal
+  build_refusal_below =
+      or_refusal_below (line_refusal code line) _ (line_refusal_below code line)
+      (if_below _ _ 2 (if_below _ _ 3 (if_below (room_ok (plan_of code line) y_room c_room) 0 1 (omega arith) (omega arith)) (omega arith)) (omega arith))
 
 -- raster, line, lengths, words, carry and room are right
 pub record Buildable (code line : ℕ) (carry : Carry) (y_active c_active y_laid c_laid : List ℕ) (y_room c_room : ℕ) : Type 0 where
@@ -105,10 +111,3 @@ build_refusal-fits code line carry y_active c_active y_laid c_laid y_room c_room
       (lengths_of plan y_active y_laid b.y_lengths).1,
       (lengths_of plan c_active c_laid b.c_lengths).1,
     )
-
--- ---- what is answered where a row is refused: the refusal alone, with the buffers as they were
-
-pub refused-nothing : (n : ℕ) (y_active c_active y_stream c_stream y c : List ℕ) → (n ≡ 0 → ⊥)
-    → (record { refusal = n; carry = Nothing } ≡ built_for n y_active c_active) × ((y ≡ laid_unless n y_stream y) × (c ≡ laid_unless n c_stream c))
-refused-nothing zero y_active c_active y_stream c_stream y c bad = absurd (bad refl)
-refused-nothing (suc n) y_active c_active y_stream c_stream y c bad = (refl, (refl, refl))

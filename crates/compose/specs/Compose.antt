@@ -1,5 +1,7 @@
 -- Building a row: "raster, line, carry and, per channel, A active words and up to T-A-12 words laid from the start of the blanking".
-use Rattle.std.specs.Prelude.{Bool, ◌&&◌, List, [], ◌∷◌, ◌++◌, ℕ, zero, suc, ◌-◌, eqb, leb, length, take, replicate}
+use Rattle.std.specs.Prelude.{Bool, ◌&&◌, List, [], ◌∷◌, ◌++◌, ℕ, ◌-◌, eqb, leb, length, take, replicate, Some, Result}
+use Rattle.refusal.specs.declared.Refusal.{Refusal}
+use Rattle.refusal.specs.Refusal.{result_of}
 use Rattle.bits.specs.Choice.{if}
 use Rattle.bits.specs.Words.{words10}
 use Rattle.crc.specs.Crc.{crc_start, crc_words}
@@ -8,10 +10,7 @@ use Rattle.plan.specs.declared.Plan.{Plan}
 use Rattle.plan.specs.Plan.{plan_of}
 use Rattle.plan.specs.Refusal.{or_refusal}
 use Rattle.stream.specs.Words.{y_blank, c_blank, trs, head_words, check_words}
-use Rattle.row.specs.declared.Carry.{Carry}
-use Rattle.row.specs.declared.Carry.TheVariants.{Nothing, Registers}
-use Rattle.row.specs.Before.{carried, carry_ok}
-use Rattle.compose.specs.declared.Built.{Built}
+use Rattle.row.specs.Before.{Carry, carried, carry_ok}
 
 -- "Without a carry its CRC words are 200 200."
 abbrev pub crc_for : Plan → Bool → ℕ → List ℕ
@@ -53,7 +52,5 @@ build_refusal code line carry y_active c_active y_laid c_laid y_room c_room =
     or_refusal (line_refusal code line) (refusal_under (plan_of code line) carry y_active c_active y_laid c_laid y_room c_room)
 
 -- "check, correction and building answer the next [carry]"
-abbrev pub built_for : ℕ → List ℕ → List ℕ → Built
-built_for zero y_active c_active =
-    record { refusal = 0; carry = Registers (crc_words crc_start y_active) (crc_words crc_start c_active) }
-built_for (suc n) y_active c_active = record { refusal = suc n; carry = Nothing }
+abbrev pub built_for : ℕ → List ℕ → List ℕ → Result Carry Refusal
+built_for n y_active c_active = result_of n (Some (record { y = crc_words crc_start y_active; c = crc_words crc_start c_active }))

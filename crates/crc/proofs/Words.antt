@@ -5,31 +5,33 @@ use mathlib.Core.List.{List}
 use Prim.Native.Nat.{ℕ, ◌/◌, ◌%◌, ◌^◌, ◌≤◌, ◌<◌}
 use native.Mathlib.Omega.{arith}
 use borrow.Author.Tests.{le-leb, lt-leb}
+use Rattle.std.specs.Prelude.{Ok, Err}
 use Rattle.bits.specs.Words.{words10, reserved_code}
 use Rattle.bits.proofs.Words.{nine_range, nine_low, nine_not_reserved}
-use Rattle.crc.specs.Crc.{crc_words, register_ok, ran, cr0, cr1, cr_words}
+use Rattle.refusal.specs.declared.Refusal.TheVariants.{TooHigh}
+use Rattle.crc.specs.Crc.{crc_words, register_ok, ran, cr0, cr1, crc_pair, cr_words}
 
--- ---- ran: 0 exactly when the register is at most 3FFFF and no word is above 3FF, else 3
+-- ---- ran: done exactly when the register is at most 3FFFF and no word is above 3FF, else 3
 
-pub ran-done : (r : ℕ) (ws : List ℕ) → r ≤ 0x3ffff → words10 ws ≡ true → ran r ws ≡ record { refusal = 0; register = crc_words r ws }
+pub ran-done : (r : ℕ) (ws : List ℕ) → r ≤ 0x3ffff → words10 ws ≡ true → ran r ws ≡ Ok (crc_words r ws)
 unfolding ran
 ran-done r ws h k = simp (le-leb r 0x3ffff h, k)
 
-pub ran_register : (r : ℕ) (ws : List ℕ) → 0x3ffff < r → ran r ws ≡ record { refusal = 3; register = 0 }
+pub ran_register : (r : ℕ) (ws : List ℕ) → 0x3ffff < r → ran r ws ≡ Err TooHigh
 unfolding ran
 ran_register r ws h = simp (lt-leb r 0x3ffff h)
 
-pub ran_words : (r : ℕ) (ws : List ℕ) → words10 ws ≡ false → ran r ws ≡ record { refusal = 3; register = 0 }
+pub ran_words : (r : ℕ) (ws : List ℕ) → words10 ws ≡ false → ran r ws ≡ Err TooHigh
 unfolding ran
 ran_words r ws k = simp (k, and-false (register_ok r))
 
--- ---- cr_words: 0 exactly when the register is at most 3FFFF, else 3
+-- ---- cr_words: done exactly when the register is at most 3FFFF, else 3
 
-pub cr_words-done : (r : ℕ) → r ≤ 0x3ffff → cr_words r ≡ record { refusal = 0; cr0 = cr0 r; cr1 = cr1 r }
+pub cr_words-done : (r : ℕ) → r ≤ 0x3ffff → cr_words r ≡ Ok (crc_pair r)
 unfolding cr_words
 cr_words-done r h = rw (le-leb r 0x3ffff h)
 
-pub cr_words_register : (r : ℕ) → 0x3ffff < r → cr_words r ≡ record { refusal = 3; cr0 = 0; cr1 = 0 }
+pub cr_words_register : (r : ℕ) → 0x3ffff < r → cr_words r ≡ Err TooHigh
 unfolding cr_words
 cr_words_register r h = rw (lt-leb r 0x3ffff h)
 

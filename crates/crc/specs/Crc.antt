@@ -1,10 +1,12 @@
 -- "CRC: X^18+X^5+X^4+1, from zero, each channel alone, lowest bit first."
-use Rattle.std.specs.Prelude.{Bool, ◌&&◌, List, [], ◌∷◌, ℕ, ◌/◌, leb}
+use Rattle.std.specs.Prelude.{Bool, ◌&&◌, List, [], ◌∷◌, ℕ, ◌/◌, leb, Result, Ok, Err}
 use Rattle.std.specs.Int.Bits.{bit_xor}
+use Rattle.std.specs.Result.{result_unwrap_or}
 use Rattle.bits.specs.Choice.{if}
 use Rattle.bits.specs.Bits.{◌⊕◌, odd, bits}
 use Rattle.bits.specs.Words.{words10, nine_of}
-use Rattle.crc.specs.declared.Ran.{Ran}
+use Rattle.refusal.specs.declared.Refusal.{Refusal}
+use Rattle.refusal.specs.declared.Refusal.TheVariants.{TooHigh}
 use Rattle.crc.specs.declared.CrcWords.{CrcWords}
 
 -- "Per bit: if register bit 0 differs from the data bit, shift right by one and xor 23000, else shift right."
@@ -33,11 +35,9 @@ crc_start = 0
 abbrev pub register_ok : ℕ → Bool
 register_ok r = leb r 0x3ffff
 
--- the register after words, or 3 with zeros
-unfoldable pub ran : ℕ → List ℕ → Ran
-ran r ws =
-    if (register_ok r && words10 ws) (record { refusal = 0; register = crc_words r ws })
-    (record { refusal = 3; register = 0 })
+-- the register after words, or 3
+unfoldable pub ran : ℕ → List ℕ → Result ℕ Refusal
+ran r ws = if (register_ok r && words10 ws) (Ok (crc_words r ws)) (Err TooHigh)
 
 -- "CR0 holds register bits 8..0, CR1 bits 17..9; bit 9 is the inverse of bit 8."
 abbrev pub cr0 : ℕ → ℕ
@@ -46,6 +46,14 @@ cr0 r = nine_of r
 abbrev pub cr1 : ℕ → ℕ
 cr1 r = nine_of (r / 512)
 
-unfoldable pub cr_words : ℕ → CrcWords
-cr_words r =
-    if (register_ok r) (record { refusal = 0; cr0 = cr0 r; cr1 = cr1 r }) (record { refusal = 3; cr0 = 0; cr1 = 0 })
+-- both
+abbrev pub crc_pair : ℕ → CrcWords
+crc_pair r = record { cr0 = cr0 r; cr1 = cr1 r }
+
+-- the words of a register, or 3
+unfoldable pub cr_words : ℕ → Result CrcWords Refusal
+cr_words r = if (register_ok r) (Ok (crc_pair r)) (Err TooHigh)
+
+-- .. or zeros, where words are wanted all the same
+abbrev pub words_given : ℕ → CrcWords
+words_given r = result_unwrap_or (cr_words r) (record { cr0 = 0; cr1 = 0 })

@@ -5,7 +5,7 @@ use Prim.Native.Nat.{ℕ}
 use lib.ListN.{length}
 use Rattle.parts.specs.Parts.{laid_unless, part}
 use Rattle.plan.specs.Plan.{plan_of}
-use Rattle.row.specs.declared.Carry.{Carry}
+use Rattle.row.specs.Before.{Carry}
 use Rattle.compose.specs.Compose.{y_stream, c_stream, build_refusal}
 use Rattle.law_row.proofs.BuiltRow.{built_y, built_c}
 use Rattle.law_burst.specs.TwoRows.{total}

@@ -7,7 +7,7 @@ use lib.ListN.{length}
 use Rattle.parts.specs.Parts.{any}
 use Rattle.parts.proofs.Comparing.{any_of_append}
 use Rattle.desk.specs.declared.Job.{Job}
-use Rattle.desk.specs.declared.Kind.TheVariants.{BadFile}
+use Rattle.desk.specs.declared.Outcome.TheVariants.{BadFile}
 use Rattle.desk.specs.declared.Outcome.{Outcome}
 use Rattle.desk.specs.Desk.{done}
 use Rattle.law_file.specs.File.{Got, got, wrong, then, byte_read, count_read, tag_bytes_read, tag_read, options_of, options_read, words_read, job_read, Ending, whole, cut_short, refused_by, Contents, contents_by, read_in, contents_of, last_outcomes, outcomes_of}
@@ -73,7 +73,7 @@ fair_file (suc k) (b ∷ bs) = fair_contents (λ rest. read_in k rest) (fair_job
 -- ---- its outcomes
 
 abbrev unfair : Outcome → Bool
-unfair o = not (outcome_ok o.kind)
+unfair o = not (outcome_ok o)
 
 fair_jobs : (js : List Job) → any unfair (map (λ j. done j) js) ≡ false
 unfolding any

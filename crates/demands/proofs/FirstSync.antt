@@ -2,7 +2,7 @@
 use mathlib.Core.Path.{◌≡◌, sym, ◌∙◌}
 use mathlib.Core.Bool.{Bool, true, false}
 use mathlib.Core.List.{List}
-use mathlib.Core.Option.{none, some}
+use Rattle.std.specs.Prelude.{None, Some}
 use Prim.Native.Nat.{ℕ}
 use native.Mathlib.Omega.{arith}
 use Rattle.bits.specs.Choice.{if}
@@ -14,10 +14,10 @@ use Rattle.align.proofs.FirstSync.{first_starts, first_is_first, none_means_none
 use Rattle.demands.specs.Demands.{FirstSync}
 
 -- a place is answered of ten-bit words only
-place_in : (ws : List ℕ) (n : ℕ) → sync_place (found_sync ws) ≡ some n → first_sync ws ≡ some n
+place_in : (ws : List ℕ) (n : ℕ) → sync_place (found_sync ws) ≡ Some n → first_sync ws ≡ Some n
 place_in ws n e = go (words10 ws) (sym (found-place ws) ∙ e)
   where
-    go : (b : Bool) → if b (first_sync ws) none ≡ some n → first_sync ws ≡ some n
+    go : (b : Bool) → if b (first_sync ws) None ≡ Some n → first_sync ws ≡ Some n
     go true q = q
     go false q = absurd (let z : ◌≡◌ {A = ℕ} 0 1 = cc in omega arith)
 

@@ -17,6 +17,7 @@ pub mod PacketRight
 pub mod PacketFound
 pub mod Coding
 pub mod BuiltNoFlag
+pub mod BuiltPackets
 pub mod BuiltRows
 pub mod RowExtracted
 pub mod CorrectedFlags

@@ -1,38 +1,36 @@
 -- A line is read of the words that are built of it, and of no others.
-use mathlib.Core.Path.{◌≡◌, refl, sym, ap, ap₂, ◌∙◌}
-use mathlib.Core.Bool.{Bool, true, false}
+use mathlib.Core.Path.{◌≡◌, sym, ap, ap₂, ◌∙◌}
+use mathlib.Core.Bool.{true}
 use Prim.Native.Nat.{ℕ}
-use native.Mathlib.Omega.{arith}
-use Rattle.bits.specs.Choice.{if}
+use Rattle.std.specs.Prelude.{Some, Ok}
+use Rattle.refusal.proofs.Answers.{result_of_ok}
+use Rattle.bits.specs.Choice.{unless_zero}
+use Rattle.bits.proofs.Choice.{if_zero}
 use Rattle.raster.specs.Table.{raster_ok}
 use Rattle.raster.proofs.Lines.{line_refusal_ok}
-use Rattle.timing.specs.declared.LineRead.{LineRead}
-use Rattle.timing.specs.Line.{line_read, line_words}
-use Rattle.timing.proofs.Line.{line_words_made, line_words_refusal, line_words_built, line_build_of_read, line_read_of_build}
+use Rattle.timing.specs.declared.LineWords.{LineWords}
+use Rattle.timing.specs.Line.{line_from, read_refusal, line_read, line_words}
+use Rattle.timing.proofs.Line.{line_words_made, line_words_ok, line_build_of_read, line_read_of_build}
 use Rattle.demands.specs.Demands.{LineReadBack}
 
 module _ (code line ln0 ln1 : ℕ) where
-  raster_of_read : (line_read code ln0 ln1).refusal ≡ 0 → raster_ok code ≡ true
+  raster_of_read : line_read code ln0 ln1 ≡ Ok (Some line) → raster_ok code ≡ true
   unfolding line_read
-  raster_of_read = go (raster_ok code) _
-    where
-      go : (b : Bool) (r : LineRead) → (if b r (record { refusal = 4; line = 0 })).refusal ≡ 0 → b ≡ true
-      go true r e = refl
-      go false r e = absurd (omega arith)
+  raster_of_read e = (if_zero (raster_ok code) _ 3 (result_of_ok (unless_zero (line_from code ln0 ln1)) (read_refusal code ln0 ln1) e).0).0
 
-  built : (line ≡ 0 → ⊥) → line_read code ln0 ln1 ≡ record { refusal = 0; line = line } → line_words code line ≡ record { refusal = 0; ln0 = ln0; ln1 = ln1 }
-  built some e =
-      let w = line_build_of_read code ln0 ln1 line e some in
-      let ok = raster_of_read (ap (λ r. r.refusal) e) in
+  built : line_read code ln0 ln1 ≡ Ok (Some line) → line_words code line ≡ Ok (record { ln0 = ln0; ln1 = ln1 })
+  built e =
+      let w = line_build_of_read code ln0 ln1 line e in
+      let ok = raster_of_read e in
       line_words_made code line (rw (ok, w.2))
-      ∙ ap₂ (λ (a b : ℕ). record { refusal = 0; ln0 = a; ln1 = b }) (sym w.0) (sym w.1)
+      ∙ ap₂ (λ (a b : ℕ). Ok (record { ln0 = a; ln1 = b })) (sym w.0) (sym w.1)
 
-  read : line_words code line ≡ record { refusal = 0; ln0 = ln0; ln1 = ln1 } → line_read code ln0 ln1 ≡ record { refusal = 0; line = line }
+  read : line_words code line ≡ Ok (record { ln0 = ln0; ln1 = ln1 }) → line_read code ln0 ln1 ≡ Ok (Some line)
   read e =
-      let w = line_words_built code line (line_words code line) refl (ap (λ r. r.refusal) e) in
-      let ok = line_refusal_ok code line (sym (line_words_refusal code line) ∙ ap (λ r. r.refusal) e) in
-      ap₂ (line_read code) (sym (ap (λ r. r.ln0) e) ∙ w.1) (sym (ap (λ r. r.ln1) e) ∙ w.2) ∙ line_read_of_build code line ok.0 ok.1
+      let w = line_words_ok code line e in
+      let ok = line_refusal_ok code line w.0 in
+      ap₂ (line_read code) (ap (λ (r : LineWords). r.ln0) w.1) (ap (λ (r : LineWords). r.ln1) w.1) ∙ line_read_of_build code line ok.0 ok.1
 
 pub line_read_back : LineReadBack
 unfolding LineReadBack
-line_read_back code line ln0 ln1 some = (built code line ln0 ln1 some, read code line ln0 ln1)
+line_read_back code line ln0 ln1 = (built code line ln0 ln1, read code line ln0 ln1)

@@ -1,5 +1,5 @@
 -- No word that is made is a reserved code.
-use mathlib.Core.Path.{refl, sym, ap, ◌∙◌}
+use mathlib.Core.Path.{ap, ◌∙◌}
 use mathlib.Core.Bool.{true}
 use mathlib.Core.List.{List}
 use Prim.Native.Nat.{ℕ, ◌+◌, ◌*◌, ◌/◌, ◌%◌}
@@ -14,9 +14,9 @@ use Rattle.packet.specs.Build.{header_word}
 use Rattle.packet.proofs.Refusals.{packet_free}
 use Rattle.plan.specs.Plan.{plan_of}
 use Rattle.law_row.specs.MadeWords.{made_words}
-use Rattle.law_row.proofs.FoundPacket as Found
 use Rattle.law_row.proofs.MadeWords.{row_free, correction_free}
 use Rattle.demands.specs.Demands.{NoneReserved}
+use Rattle.demands.proofs.BuiltPackets.{none_refused, built_whole}
 use Rattle.demands.proofs.BuiltRows.{built_row_y, built_row_c}
 
 pub none_reserved : NoneReserved
@@ -30,9 +30,8 @@ none_reserved =
       checksum = λ ws. nine_inverse (sum_of ws % 512);
       header = λ byte. nine_inverse (byte + digit (parity (bits 8 byte)) * 256);
       packet = λ did sdid user out made.
-          let ok = sym (Found.made_number did sdid user out refl) ∙ made in
-          ap (λ (l : List ℕ). any reserved_code (drop 3 l)) (Found.made_packet did sdid user out refl refl refl ok)
-          ∙ packet_free did user (length out) sdid ok;
+          ap (λ (l : List ℕ). any reserved_code (drop 3 l)) (built_whole did sdid user out made)
+          ∙ packet_free did user (length out) sdid (none_refused did sdid user out made);
       row = λ code line carry y_active c_active y_laid c_laid y c made.
           let p = plan_of code line in
           let free = row_free code line carry y_active c_active y_laid c_laid y c made in (

@@ -4,7 +4,7 @@ use mathlib.Core.List.{List, [], ◌∷◌}
 use Prim.Native.Nat.{ℕ}
 use native.Mathlib.Omega.{arith}
 use Rattle.raster.specs.Table.{total_of}
-use Rattle.session.specs.Session.{feed_refusal, ended}
+use Rattle.session.specs.Session.{feed_refusal, ended, session_or}
 use Rattle.law_module.specs.Runs.{Bench, fed_once, fed_all, started}
 use Rattle.law_module.proofs.Refusals.{feed_taken}
 use Rattle.law_module.proofs.Between.{begun_opens}
@@ -31,7 +31,7 @@ pub nothing-taken : NothingTaken
 unfolding NothingTaken NothingLeft fed_all
 nothing-taken code feeds x ok shut short =
     let opened = begun_opens x.session code shut.0 shut.1 ok in
-    let raster = ap (λ g. total_of g.session.raster) opened ∙ total_of_meant code in
+    let raster = ap (λ g. total_of (session_or x.session g).raster) opened ∙ total_of_meant code in
     ap (λ (b : Bench). ended b.session)
     (all_kept feeds (started code x) (λ r. short (omega (arith, r.y_room_is, raster), omega (arith, r.c_room_is, raster))))
     ∙ nothing_left code x ok shut

@@ -8,6 +8,7 @@ use lib.Dec.{eqb}
 use lib.ListN.{length, replicate}
 use lib.Seq.{length-take-le}
 use borrow.Author.Tests.{le-leb, ne_eqb}
+use Rattle.std.specs.Prelude.{Ok}
 use Rattle.bits.specs.Choice.{if}
 use Rattle.bits.specs.Words.{reserved_code}
 use Rattle.raster.specs.Lines.{line_refusal}
@@ -25,8 +26,7 @@ use Rattle.finding.specs.declared.Channel.TheVariants.{Y, C}
 use Rattle.finding.specs.Extract.{channel_of, packets_in, extract_refusal, extracted}
 use Rattle.finding.proofs.Extracting.{packets_of_laid, packets_of_words, packets_of_both}
 use Rattle.stream.specs.Words.{y_blank, c_blank}
-use Rattle.row.specs.declared.Carry.{Carry}
-use Rattle.row.specs.Before.{carried}
+use Rattle.row.specs.Before.{Carry, carried}
 use Rattle.compose.specs.Compose.{blanking_for, stream_of, y_stream, c_stream, build_refusal}
 use Rattle.law_row.specs.Lawful.{all_right}
 use Rattle.law_row.proofs.BuiltParts.{blanking_of-stream_of, active_of-stream_of}
@@ -128,7 +128,7 @@ module _
         (long_c code line carry y_active c_active y_laid c_laid y c made) lawful.c_laid_is lawful.c_right lawful.c_plain (λ e. omega arith)
 
     copied : (channel : Channel) (out : List ℕ) → length (channel_of channel y_laid c_laid) ≤ length out
-        → (extracted code line channel y_row c_row (length out) ≡ record { refusal = 0; words = length (channel_of channel y_laid c_laid) })
+        → (extracted code line channel y_row c_row (length out) ≡ Ok (length (channel_of channel y_laid c_laid)))
         × (extracted_packets code line channel y_row c_row out ≡ channel_of channel y_laid c_laid)
     unfolding extracted extract_refusal
     copied channel out room =

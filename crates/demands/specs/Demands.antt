@@ -2,10 +2,13 @@
 -- here of the definition is said of what the call answers and leaves. proofs/ proves each.
 use Rattle.std.specs.Prelude.{◌≡◌, Bool, true, false, not, ◌&&◌, ◌↔◌, ℕ, ◌+◌, ◌/◌, ◌%◌, ◌≤◌, ◌<◌, leb, eqb, length, drop}
 use mathlib.Core.List.{List, [], ◌∷◌, ◌++◌, flat_map}
-use Rattle.std.proofs.Math.Option.{none, some}
+use Rattle.std.specs.Prelude.{None, Some, Result, Ok, Err}
+use Rattle.refusal.specs.declared.Refusal.{Refusal}
+use Rattle.std.specs.Result.{result_unwrap_or}
 use Rattle.bits.specs.Choice.{if}
 use Rattle.bits.specs.Bits.{odd, word_bits}
 use Rattle.bits.specs.Words.{words10, reserved_code}
+use Rattle.refusal.specs.Refusal.{refusal_of}
 use Rattle.raster.specs.Layout.{sync_of, hd_unit}
 use Rattle.raster.specs.Table.{meant, raster_ok, looked_up, total_of}
 use Rattle.raster.specs.Lines.{line_ok, line_facts}
@@ -13,12 +16,11 @@ use Rattle.crc.specs.Crc.{register_ok, ran, cr0, cr1, cr_words}
 use Rattle.cable.specs.Words.{scramble_words, unscramble_words, scramble_next, unscramble_next, code_refusal, coded, filled}
 use Rattle.cable.specs.Channels.{paired}
 use Rattle.align.specs.Sync.{starts_with, sync_refusal, sync_place, found_sync}
-use Rattle.timing.specs.declared.Timing.TheVariants.{Exact}
-use Rattle.timing.specs.Xyz.{xyz_of, read_xyz, told}
+use Rattle.timing.specs.Xyz.{xyz_of, fvh, read_xyz, told}
 use Rattle.timing.specs.Line.{ln0_of, ln1_of, line_words, line_read}
 use Rattle.parts.specs.Parts.{part, any, laid, end_to_end, unless_refused, laid_unless}
 use Rattle.scan.specs.Packet.{checksum_of}
-use Rattle.plan.specs.Plan.{plan_of}
+use Rattle.plan.specs.Plan.{plan_of, planned}
 use Rattle.plan.specs.Refusal.{row_refusal}
 use Rattle.packet.specs.Build as Packet
 use Rattle.packet.specs.Build.{buildable}
@@ -26,8 +28,8 @@ use Rattle.finding.specs.declared.Channel.{Channel}
 use Rattle.finding.specs.Find.{find_of}
 use Rattle.finding.specs.Extract.{channel_of, packets_in, extract_refusal, extracted}
 use Rattle.stream.specs.Words.{y_blank, c_blank}
-use Rattle.row.specs.declared.Carry.{Carry}
-use Rattle.row.specs.Before.{carried, carry_ok}
+use Rattle.row.specs.Before.{Carry, carried, carry_ok}
+use Rattle.row.specs.declared.Judged.{Judged}
 use Rattle.row.specs.Row.{flags_of, check_refusal, checked}
 use Rattle.repair.specs.Repair.{wiped_if}
 use Rattle.repair.specs.Answer.{corrected_y, corrected_c, corrected}
@@ -41,7 +43,7 @@ use Rattle.tally.specs.declared.Verdict.TheVariants.{NoSignal}
 use Rattle.tally.specs.Tally.{no_counts}
 use Rattle.session.specs.declared.Session.{Session}
 use Rattle.session.specs.declared.Ended.{Ended}
-use Rattle.session.specs.Session.{closed, in_range, begin_refusal, begun, feed_refusal, fed, ended}
+use Rattle.session.specs.Session.{closed, in_range, begin_refusal, begun, feed_refusal, fed, ended, session_or, session_left}
 use Rattle.law_module.specs.Module.{Answer, module_of}
 use Rattle.law_module.specs.Runs.{Bench, fed_once, fed_all, started, answered, left, Fits}
 use Rattle.law_clean.specs.Signal.{CleanPasses, CleanPassesShort, WindowPasses}
@@ -50,16 +52,16 @@ use Rattle.reader.specs.declared.Stage.{Stage}
 use Rattle.reader.specs.declared.Stage.TheVariants.{TagCount, TagBytes, OptionsCount, RasterByte, WipeByte, WordCount, LowByte, HighByte, Stopped}
 use Rattle.reader.specs.declared.Reader.{Reader}
 use Rattle.reader.specs.Reader.{tag_size_ok, printable, options_size_ok, wipe_ok, word_of, word_ok, read_of, is_cut}
-use Rattle.desk.specs.declared.Kind.{Kind}
-use Rattle.desk.specs.declared.Kind.TheVariants.{Nothing, Done, BadFile}
+use Rattle.desk.specs.declared.Outcome.{Outcome}
+use Rattle.desk.specs.declared.Outcome.TheVariants.{Nothing, Done, BadFile}
 use Rattle.desk.specs.declared.Desk.{Desk}
 use Rattle.desk.specs.Desk as Desk
 use Rattle.law_file.specs.File.{outcomes_of}
-use Rattle.law_file.specs.Serving.{after_take}
+use Rattle.law_file.specs.Serving.{take_left, after_take}
 use Rattle.law_file.specs.Promises.{NeverRefused, ServedAlike, PiecesServed, BenchPrints, JobAlone, RefusedAlone}
 use Rattle.law_refusal.specs.Answers.{Refused}
 use Rattle.law_refusal.specs.Rows.{rows_ok, parts_ok, words_ok}
-use Rattle.law_refusal.specs.Files.{piece_refusal, count_ok, ready, roomy}
+use Rattle.law_refusal.specs.Files.{count_ok, ready, roomy}
 use Rattle.demands.specs.Numbers.{NumbersHold}
 
 -- ==== Demand 1
@@ -108,24 +110,24 @@ byte_tests Stopped r b = []
 pub record EachCall : Type 0 where
   pub scramble : (h : ℕ) (ws out : List ℕ)
       → Keeps (3 unless leb h 0x3ff ∷ 3 unless words10 ws ∷ 1 unless leb (length ws) (length out) ∷ [])
-      (coded (code_refusal h ws (length out)) (scramble_next h ws)).refusal out
+      (refusal_of (coded (code_refusal h ws (length out)) (scramble_next h ws))) out
       (filled (code_refusal h ws (length out)) (scramble_words h ws) out)
   pub unscramble : (h : ℕ) (ws out : List ℕ)
       → Keeps (3 unless leb h 0x3ff ∷ 3 unless words10 ws ∷ 1 unless leb (length ws) (length out) ∷ [])
-      (coded (code_refusal h ws (length out)) (unscramble_next h ws)).refusal out
+      (refusal_of (coded (code_refusal h ws (length out)) (unscramble_next h ws))) out
       (filled (code_refusal h ws (length out)) (unscramble_words h ws) out)
-  pub of_crc_run : (r : ℕ) (ws : List ℕ) → Answers (3 unless (register_ok r && words10 ws) ∷ []) (ran r ws).refusal
-  pub of_crc_words : (r : ℕ) → Answers (3 unless register_ok r ∷ []) (cr_words r).refusal
+  pub of_crc_run : (r : ℕ) (ws : List ℕ) → Answers (3 unless (register_ok r && words10 ws) ∷ []) (refusal_of (ran r ws))
+  pub of_crc_words : (r : ℕ) → Answers (3 unless register_ok r ∷ []) (refusal_of (cr_words r))
   pub of_find_sync : (ws : List ℕ) → Answers (3 unless words10 ws ∷ []) (sync_refusal (found_sync ws))
-  pub of_raster_of : (code : ℕ) → Answers (4 unless raster_ok code ∷ []) (looked_up code).refusal
-  pub of_line_facts : (code line : ℕ) → Answers (4 unless raster_ok code ∷ 5 unless line_ok code line ∷ []) (line_facts code line).refusal
-  pub of_plan_of : (code line : ℕ) → Answers (4 unless raster_ok code ∷ 5 unless line_ok code line ∷ []) (plan_of code line).refusal
+  pub of_raster_of : (code : ℕ) → Answers (4 unless raster_ok code ∷ []) (refusal_of (looked_up code))
+  pub of_line_facts : (code line : ℕ) → Answers (4 unless raster_ok code ∷ 5 unless line_ok code line ∷ []) (refusal_of (line_facts code line))
+  pub of_plan_of : (code line : ℕ) → Answers (4 unless raster_ok code ∷ 5 unless line_ok code line ∷ []) (refusal_of (planned code line))
   pub of_read_xyz : (w : ℕ) → Answers (3 unless leb w 0x3ff ∷ []) (told (read_xyz w)).refusal
-  pub of_line_words : (code line : ℕ) → Answers (4 unless raster_ok code ∷ 5 unless line_ok code line ∷ []) (line_words code line).refusal
-  pub of_read_line : (code ln0 ln1 : ℕ) → Answers (4 unless raster_ok code ∷ 3 unless (leb ln0 0x3ff && leb ln1 0x3ff) ∷ []) (line_read code ln0 ln1).refusal
+  pub of_line_words : (code line : ℕ) → Answers (4 unless raster_ok code ∷ 5 unless line_ok code line ∷ []) (refusal_of (line_words code line))
+  pub of_read_line : (code ln0 ln1 : ℕ) → Answers (4 unless raster_ok code ∷ 3 unless (leb ln0 0x3ff && leb ln1 0x3ff) ∷ []) (refusal_of (line_read code ln0 ln1))
   pub of_build_packet : (did sdid : ℕ) (user out : List ℕ)
       → Keeps (3 unless words10 user ∷ 6 unless buildable did user ∷ 1 unless leb (length user + 7) (length out) ∷ [])
-      (Packet.built did user (length out)).refusal out
+      (refusal_of (Packet.built did user (length out))) out
       (laid_unless (Packet.build_refusal did user (length out)) (Packet.packet_of did sdid user) out)
   -- find answers a part, an empty one where it is refused
   pub of_find_packet : (code line did sdid : ℕ) (y c : List ℕ)
@@ -140,16 +142,16 @@ pub record EachCall : Type 0 where
       ∷ 3 unless words_ok y c
       ∷ 1 unless leb (length packets) (length out)
       ∷ [])
-      (extracted code line channel y c (length out)).refusal out (laid_unless (extract_refusal code line channel y c (length out)) packets out)
+      (refusal_of (extracted code line channel y c (length out))) out (laid_unless (extract_refusal code line channel y c (length out)) packets out)
   pub of_check_row : (code line : ℕ) (carry : Carry) (y c : List ℕ)
       → Answers
       (4 unless raster_ok code ∷ 5 unless line_ok code line ∷ 2 unless rows_ok code y c ∷ 3 unless (words_ok y c && carry_ok carry) ∷ [])
-      (checked code line carry y c).refusal
+      (refusal_of (checked code line carry y c))
   pub of_correct_row : (code line : ℕ) (carry : Carry) (wipe : Bool) (y c : List ℕ)
       → let n = check_refusal code line carry y c in
       Keeps {Lent = List ℕ × List ℕ}
       (4 unless raster_ok code ∷ 5 unless line_ok code line ∷ 2 unless rows_ok code y c ∷ 3 unless (words_ok y c && carry_ok carry) ∷ [])
-      (corrected code line carry wipe y c).refusal (y, c)
+      (refusal_of (corrected code line carry wipe y c)) (y, c)
       (unless_refused n (corrected_y (plan_of code line) carry wipe y) y, unless_refused n (corrected_c (plan_of code line) carry wipe c) c)
   pub of_build_row : (code line : ℕ) (carry : Carry) (y_active c_active y_laid c_laid y c : List ℕ)
       → let p = plan_of code line in
@@ -161,46 +163,46 @@ pub record EachCall : Type 0 where
       ∷ 3 unless (words_ok y_active y_laid && (words_ok c_active c_laid && carry_ok carry))
       ∷ 1 unless room_ok p (length y) (length c)
       ∷ [])
-      (built_for n y_active c_active).refusal (y, c)
+      (refusal_of (built_for n y_active c_active)) (y, c)
       (laid_unless n (y_stream p carry y_active y_laid) y, laid_unless n (c_stream p carry c_active c_laid) c)
   pub begin : (s : Session) (code : ℕ)
-      → Keeps (7 unless (not s.running && in_range s) ∷ 4 unless raster_ok code ∷ []) (begun s code).refusal s (begun s code).session
+      → Keeps (7 unless (not s.running && in_range s) ∷ 4 unless raster_ok code ∷ []) (refusal_of (begun s code)) s (session_or s (begun s code))
   pub feed : (ws : List ℕ) (x : Bench)
       → let s = x.session in
       let row_words = total_of s.raster in
       Keeps
       (7 unless (s.running && in_range s) ∷ 3 unless words10 ws ∷ 1 unless (leb row_words (length x.y) && leb row_words (length x.c)) ∷ [])
-      (fed s ws x.y x.c).refusal x (fed_once ws x)
-  pub end : (s : Session) → Keeps (7 unless (s.running && in_range s) ∷ []) (ended s).refusal s (ended s).session
-  pub read : (r : Reader) (b : ℕ) → Answers (byte_tests r.stage r b) (piece_refusal (read_of r b).piece)
+      (refusal_of (fed s ws x.y x.c)) x (fed_once ws x)
+  pub end : (s : Session) → Keeps (7 unless (s.running && in_range s) ∷ []) (refusal_of (ended s)) s (session_left s (ended s))
+  pub read : (r : Reader) (b : ℕ) → Answers (byte_tests r.stage r b) (refusal_of (read_of r b))
   pub take : (bs : List ℕ) (x : Desk.Standing)
-      → Keeps (7 unless ready x.desk ∷ 1 unless roomy x.y x.c ∷ []) (Desk.taken x.desk bs x.y x.c).refusal x (after_take bs x)
+      → Keeps (7 unless ready x.desk ∷ 1 unless roomy x.y x.c ∷ []) (refusal_of (Desk.taken x.desk bs x.y x.c)) x (after_take bs x)
   -- finish answers an outcome: "9: bench file: .. cut short", or nothing
   pub finish : (d : Desk) → Desk.finished d ≡ if (is_cut d.reader) (Desk.bad_file 9) Desk.nothing
 
 -- .. and of a bench file each outcome is a job that is done, or `bad file` with 9, 4 or 3
-abbrev pub outcome_ok : Kind → Bool
+abbrev pub outcome_ok : Outcome → Bool
 outcome_ok Nothing = false
-outcome_ok Done = true
+outcome_ok (Done j) = true
 outcome_ok (BadFile n) = any (eqb n) (9 ∷ 4 ∷ 3 ∷ [])
 
 unfoldable pub EachOutcome : Type 0
-EachOutcome = (bs : List ℕ) → any (λ o. not (outcome_ok o.kind)) (outcomes_of bs) ≡ false
+EachOutcome = (bs : List ℕ) → any (λ o. not (outcome_ok o)) (outcomes_of bs) ≡ false
 
 -- (the table's 7) ".. which no session answered by a call here has"
 pub record InRange : Type 0 where
   pub fresh : in_range closed ≡ true
-  pub begin : (s : Session) (code : ℕ) → in_range s ≡ true → in_range (begun s code).session ≡ true
-  pub feed : (s : Session) (ws y c : List ℕ) → in_range s ≡ true → in_range (fed s ws y c).session ≡ true
-  pub end : (s : Session) → in_range s ≡ true → in_range (ended s).session ≡ true
-  pub take : (d : Desk) (bs y c : List ℕ) → in_range d.session ≡ true → in_range (Desk.taken d bs y c).desk.session ≡ true
+  pub begin : (s : Session) (code : ℕ) → in_range s ≡ true → in_range (session_or s (begun s code)) ≡ true
+  pub feed : (s : Session) (ws y c : List ℕ) → in_range s ≡ true → in_range (session_or s (fed s ws y c)) ≡ true
+  pub end : (s : Session) → in_range s ≡ true → in_range (session_left s (ended s)) ≡ true
+  pub take : (d : Desk) (bs y c : List ℕ) → in_range d.session ≡ true → in_range (take_left d (Desk.taken d bs y c)).desk.session ≡ true
 
 -- ---- "A module's verdict depends only on its own words and its chosen raster; what the module before left in the bench or its buffers
 -- ---- counts for nothing."
 
 -- what end answers of a module, with the closed session
-abbrev pub end_of : Answer → Ended
-end_of a = record { refusal = 0; raster = a.raster; counts = a.counts; verdict = a.verdict; session = closed }
+abbrev pub end_of : Answer → Result Ended Refusal
+end_of a = Ok (record { raster = a.raster; counts = a.counts; verdict = a.verdict; session = closed })
 
 -- on this bench, whatever its buffers hold, the raster is begun and the words are taken
 abbrev pub Runs : ℕ → List ℕ → Bench → Type 0
@@ -277,28 +279,27 @@ sync_starts place ws = starts_with (sync_of hd_unit) (drop place (word_bits ws))
 
 -- "Finding alignment .. answers the bit place of the first sync, from 0, or none."
 pub record FirstSync : Type 0 where
-  pub found : (ws : List ℕ) (n : ℕ) → sync_place (found_sync ws) ≡ some n
+  pub found : (ws : List ℕ) (n : ℕ) → sync_place (found_sync ws) ≡ Some n
       → (sync_starts n ws ≡ true) × ((k : ℕ) → k < n → sync_starts k ws ≡ false)
-  pub nowhere : (ws : List ℕ) → words10 ws ≡ true → sync_place (found_sync ws) ≡ none → (k : ℕ) → sync_starts k ws ≡ false
+  pub nowhere : (ws : List ℕ) → words10 ws ≡ true → sync_place (found_sync ws) ≡ None → (k : ℕ) → sync_starts k ws ≡ false
 
 -- "Reading answers F, V and H, or not exact.": F, V and H exactly of the word that is built of them
 unfoldable pub XyzReadBack : Type 0
-XyzReadBack = (w : ℕ) (f v h : Bool) → read_xyz w ≡ Exact f v h ↔ w ≡ xyz_of f v h
+XyzReadBack = (w : ℕ) (f v h : Bool) → read_xyz w ≡ Ok (Some (fvh f v h)) ↔ w ≡ xyz_of f v h
 
 -- "reading answers the line, or 0 if not exact or not in 1..N": a line exactly of the words that are built of it
 unfoldable pub LineReadBack : Type 0
-LineReadBack = (code line ln0 ln1 : ℕ) → (line ≡ 0 → ⊥)
-    → line_read code ln0 ln1 ≡ record { refusal = 0; line = line } ↔ line_words code line ≡ record { refusal = 0; ln0 = ln0; ln1 = ln1 }
+LineReadBack = (code line ln0 ln1 : ℕ) → line_read code ln0 ln1 ≡ Ok (Some line) ↔ line_words code line ≡ Ok (record { ln0 = ln0; ln1 = ln1 })
 
 -- the packet that building leaves at the start of its output
 abbrev pub built_packet : ℕ → ℕ → List ℕ → List ℕ → List ℕ
 built_packet did sdid user out =
-    part 0 (Packet.built did user (length out)).words
+    part 0 (result_unwrap_or (Packet.built did user (length out)) 0)
     (laid_unless (Packet.build_refusal did user (length out)) (Packet.packet_of did sdid user) out)
 
 -- it is whole and has a right checksum: one of the packets that a line may be built from (`LawfulLine`)
 unfoldable pub PacketRight : Type 0
-PacketRight = (did sdid : ℕ) (user out : List ℕ) → (Packet.built did user (length out)).refusal ≡ 0 → right_packet (built_packet did sdid user out) ≡ true
+PacketRight = (did sdid : ℕ) (user out : List ℕ) → refusal_of (Packet.built did user (length out)) ≡ 0 → right_packet (built_packet did sdid user out) ≡ true
 
 -- "A packet is found by its DID and SDID bytes.": one that is built and laid into the blanking of Y, after whole packets of which none is
 -- wanted or at the start, is found, whatever the other words of the row are
@@ -306,7 +307,7 @@ unfoldable pub PacketFound : Type 0
 PacketFound = (code line did sdid at : ℕ) (user out y c : List ℕ) (packets : List (List ℕ))
     → did < 256
     → sdid < 256
-    → (Packet.built did user (length out)).refusal ≡ 0
+    → refusal_of (Packet.built did user (length out)) ≡ 0
     → row_refusal code line y c ≡ 0
     → PlaceAfter code line did sdid user y at packets
     → find_of code line did sdid (laid at (built_packet did sdid user out) y) c ≡ built_packet did sdid user out
@@ -342,13 +343,13 @@ BuiltNoFlag = (code line : ℕ) (carry : Carry) (y_active c_active y_laid c_laid
     → build_refusal code line carry y_active c_active y_laid c_laid (length y) (length c) ≡ 0
     → LawfulLine y_active c_active y_laid c_laid y_packets c_packets
     → let p = plan_of code line in
-    let seen = checked code line carry (built_row code line (y_stream p carry y_active y_laid) y) (built_row code line (c_stream p carry c_active c_laid) c) in
-    (seen.refusal ≡ 0) × (seen.flags ≡ 0) × (seen.carry ≡ (built_for 0 y_active c_active).carry)
+    checked code line carry (built_row code line (y_stream p carry y_active y_laid) y) (built_row code line (c_stream p carry c_active c_laid) c)
+    ≡ Ok (record { flags = 0; carry = result_unwrap_or (built_for 0 y_active c_active) None })
 
 -- the packets that extraction leaves at the start of its output
 abbrev pub extracted_packets : ℕ → ℕ → Channel → List ℕ → List ℕ → List ℕ → List ℕ
 extracted_packets code line channel y c out =
-    part 0 (extracted code line channel y c (length out)).words
+    part 0 (result_unwrap_or (extracted code line channel y c (length out)) 0)
     (laid_unless (extract_refusal code line channel y c (length out)) (packets_in code line (channel_of channel y c)) out)
 
 -- "Extraction copies all whole packets of a channel, in order, end to end.": of a line so built, with any carry or none, they are exactly those
@@ -364,8 +365,13 @@ RowExtracted = (code line : ℕ) (carry : Carry) (y_active c_active y_laid c_lai
     let packets = channel_of channel y_laid c_laid in
     (packets_in code line (channel_of channel y_row c_row) ≡ packets)
     × (length packets ≤ length out
-    → (extracted code line channel y_row c_row (length out) ≡ record { refusal = 0; words = length packets })
+    → (extracted code line channel y_row c_row (length out) ≡ Ok (length packets))
     × (extracted_packets code line channel y_row c_row out ≡ packets))
+
+-- the flags that a check shows; none where it is refused
+abbrev pub flags_shown : Result Judged Refusal → ℕ
+flags_shown (Ok j) = j.flags
+flags_shown (Err refusal) = 0
 
 -- "Rechecked with the same carried CRC, flags 0 to 6 are clear; 7 and 8 remain as they were. If wiping is chosen, .. all else, flag 7 too,
 -- then follows from the wiped row.": 128 parts flags 0 to 6 from 7 and 8
@@ -373,10 +379,10 @@ unfoldable pub CorrectedFlags : Type 0
 CorrectedFlags = (code line : ℕ) (carry : Carry) (wipe : Bool) (y c : List ℕ) → check_refusal code line carry y c ≡ 0
     → let p = plan_of code line in
     let seen = checked code line carry (corrected_y p carry wipe y) (corrected_c p carry wipe c) in
-    (seen.refusal ≡ 0)
-    × (seen.flags % 128 ≡ 0)
-    × (seen.flags / 128 ≡ flags_of p carry (wiped_if wipe p y_blank y) (wiped_if wipe p c_blank c) / 128)
-    × (wipe ≡ false → seen.flags / 128 ≡ (checked code line carry y c).flags / 128)
+    (refusal_of seen ≡ 0)
+    × (flags_shown seen % 128 ≡ 0)
+    × (flags_shown seen / 128 ≡ flags_of p carry (wiped_if wipe p y_blank y) (wiped_if wipe p c_blank c) / 128)
+    × (wipe ≡ false → flags_shown seen / 128 ≡ flags_shown (checked code line carry y c) / 128)
 
 -- "Cutting the words anywhere into feeds changes nothing.": where all of them are taken in one feed, pieces of them leave the same
 unfoldable pub FeedsCut : Type 0
@@ -403,7 +409,7 @@ pub record NoneReserved : Type 0 where
   pub header : (byte : ℕ) → Inverse (Packet.header_word byte)
   -- so of what the calls leave: a packet after its 000 3FF 3FF; of a row that is built, in both channels, what is made; and of one that is corrected,
   -- its checksums too
-  pub packet : (did sdid : ℕ) (user out : List ℕ) → (Packet.built did user (length out)).refusal ≡ 0
+  pub packet : (did sdid : ℕ) (user out : List ℕ) → refusal_of (Packet.built did user (length out)) ≡ 0
       → Free (drop 3 (built_packet did sdid user out))
   pub row : (code line : ℕ) (carry : Carry) (y_active c_active y_laid c_laid y c : List ℕ)
       → build_refusal code line carry y_active c_active y_laid c_laid (length y) (length c) ≡ 0
@@ -454,8 +460,8 @@ RowsStruck = (code line next : ℕ) (carry : Carry) (history : ℕ) (one other y
     → paired c_one y_one ≡ unscramble_words history one
     → paired c_other y_other ≡ unscramble_words history other
     → Struck code line one other before a m n z
-    → crc_flagged (next_checked code line next carry y_one c_one).flags ≡ false
-    → crc_flagged (next_checked code line next carry y_other c_other).flags ≡ true
+    → crc_flagged (flags_shown (next_checked code line next carry y_one c_one)) ≡ false
+    → crc_flagged (flags_shown (next_checked code line next carry y_other c_other)) ≡ true
 
 -- of the bits, at every alignment; by the calls; and the module's verdict is FAIL
 pub record DemandThree : Type 0 where

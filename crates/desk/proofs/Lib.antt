@@ -1,4 +1,4 @@
 pub mod Walking
-pub mod Taking
 pub mod Skimming
 pub mod Rushing
+pub mod Taking

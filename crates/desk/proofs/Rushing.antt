@@ -2,30 +2,33 @@
 use mathlib.Core.Path.{◌≡◌, refl, sym, ap, ◌∙◌}
 use mathlib.Core.Bool.{true}
 use mathlib.Core.List.{List, [], ◌∷◌, ◌++◌, map, flat_map}
-use Prim.Native.Nat.{ℕ, zero, suc, ◌+◌, ◌*◌, ◌≤◌, ◌<◌}
+use Prim.Native.Nat.{ℕ, zero, suc, ◌+◌, ◌-◌, ◌*◌, ◌≤◌, ◌<◌}
 use native.Mathlib.Omega.{arith}
 use lib.ListN.{length, take, drop, take-append-drop, length-take}
 use lib.Seq.{drop-append-le, drop-drop}
+use Rattle.std.specs.Prelude.{Result, Ok, Err}
 use Rattle.bits.specs.Words.{words10}
 use Rattle.bits.proofs.Words.{words10_head, words10_tail}
+use Rattle.refusal.specs.declared.Refusal.{Refusal}
+use Rattle.refusal.proofs.Answers.{result_of_ok, result_of_err}
 use Rattle.parts.specs.Parts.{end_to_end}
 use Rattle.parts.proofs.Laid.{unless_refused-refused}
 use Rattle.session.specs.declared.Session.{Session}
-use Rattle.session.specs.declared.Fed.{Fed}
-use Rattle.session.specs.Session.{feed_refusal, fed_by, fed_run, fed, fed_y, fed_c}
+use Rattle.session.specs.Session.{feed_refusal, fed_run, fed_session, fed, fed_y, fed_c, session_or}
 use Rattle.session.proofs.Refusing.{feed_taken}
 use Rattle.reader.specs.declared.Read.{Read}
 use Rattle.reader.specs.declared.Reader.{Reader}
 use Rattle.section.specs.declared.Run.{Run}
-use Rattle.reader.specs.Reader.{word_of, of_low_byte, read_of}
+use Rattle.reader.specs.Reader.{word_of, read_of}
 use Rattle.section.specs.Section.{words_in, words_ahead, after_words, run_size, run_of, run_words}
 use Rattle.section.proofs.Words.{first_over}
-use Rattle.section.proofs.Runs.{low_read, high_read, after_step, ahead_step}
+use Rattle.section.proofs.Runs.{half_read, low_read, high_read, after_step, ahead_step}
 use Rattle.law_module.specs.Runs.{Bench, bench, fed_once, fed_all}
 use Rattle.law_module.proofs.Cuts.{fed_all_of_pieces}
 use Rattle.desk.specs.declared.Desk.{Desk}
-use Rattle.desk.specs.Desk.{desk, nothing, standing, Standing, walk, walked}
+use Rattle.desk.specs.Desk.{desk, nothing, standing, Standing, walk, walked, Ahead}
 use Rattle.desk.proofs.Walking.{walk_by, by_read}
+use Rattle.desk.proofs.Skimming.{ahead_none}
 
 -- ---- word by word
 
@@ -33,7 +36,7 @@ use Rattle.desk.proofs.Walking.{walk_by, by_read}
 abbrev desk_at : Reader → Bench → Standing
 desk_at r x = standing (desk r x.session) x.y x.c
 
-one_byte : (r : Reader) (x : Bench) (b k : ℕ) (rest : List ℕ) {read : Read} → read_of r b ≡ read
+one_byte : (r : Reader) (x : Bench) (b k : ℕ) (rest : List ℕ) {read : Result Read Refusal} → read_of r b ≡ read
     → walked (b ∷ rest) (walk (desk_at r x) k nothing) ≡ walked rest (walk_by r read x.session x.y x.c (k + 1))
 unfolding walked
 one_byte r x b k rest e = ap (walked rest) (by_read r x.session b x.y x.c k (sym e))
@@ -43,7 +46,7 @@ one_word : (r : Reader) (x : Bench) (a b k : ℕ) (bs rest : List ℕ) → 0 < w
     ≡ walked rest (walk (desk_at (after_words 1 r (a ∷ b ∷ bs)) (fed_once (word_of a b ∷ []) x)) (k + 1 + 1) nothing)
 one_word r x a b k bs rest some ten =
     one_byte r x a k (b ∷ rest) (low_read r a some)
-    ∙ one_byte (of_low_byte r a).reader x b (k + 1) rest (high_read r a some b bs ten)
+    ∙ one_byte (half_read r a) x b (k + 1) rest (high_read r a some b bs ten)
 
 -- each word in a feed of its own
 abbrev singly : List ℕ → List (List ℕ)
@@ -79,21 +82,12 @@ fed_singly ws x none =
     fed_all_of_pieces (singly ws) x ready.0 (ap words10 (end_singly ws) ∙ ready.1)
     ∙ ap (λ (vs : List ℕ). fed_once vs x) (end_singly ws)
 
--- the refusal that a feed answers
-fed_refusal : (s : Session) (ws y c : List ℕ) → (fed s ws y c).refusal ≡ feed_refusal s ws y c
-unfolding fed
-fed_refusal s ws y c = go (feed_refusal s ws y c)
-  where
-    go : (n : ℕ) → (fed_by n s ws (fed_run s ws y c)).refusal ≡ n
-    go zero = refl
-    go (suc n) = refl
-
 at_once : (n : ℕ) (d : Desk) (bs rest y c : List ℕ) (k : ℕ) → 2 * n ≤ length bs → n ≤ words_ahead d.reader
     → let ws = take n (words_in bs) in
     feed_refusal d.session ws y c ≡ 0
     → walked (bs ++ rest) (walk (standing d y c) k nothing)
     ≡ walked (drop (2 * n) bs ++ rest)
-    (walk (standing (desk (after_words n d.reader bs) (fed d.session ws y c).session) (fed_y d.session ws y c) (fed_c d.session ws y c)) (k + 2 * n) nothing)
+    (walk (standing (desk (after_words n d.reader bs) (session_or d.session (fed d.session ws y c))) (fed_y d.session ws y c) (fed_c d.session ws y c)) (k + 2 * n) nothing)
 at_once n d bs rest y c k long ahead none =
     let ws = take n (words_in bs) in
     let x = bench d.session y c in
@@ -108,7 +102,14 @@ run_within r size bs room e =
     let many = ap (λ (x : Run). x.words) e in
     (omega (arith, length-take size bs), omega arith)
 
-module _ (d : Desk) (at size : ℕ) (bytes y c : List ℕ) where
+feed_answers : (s : Session) (ws y c : List ℕ) {after : Session} → Ok after ≡ fed s ws y c → feed_refusal s ws y c ≡ 0
+unfolding fed
+feed_answers s ws y c e = (result_of_ok (fed_session s ws (fed_run s ws y c)) (feed_refusal s ws y c) (sym e)).0
+
+module _ (d : Desk) (at : ℕ) (bytes y c : List ℕ) (start : at < length bytes) where
+  abbrev size : ℕ
+  size = length bytes - 1 - at
+
   abbrev part : List ℕ
   part = take size (drop at bytes)
 
@@ -118,26 +119,33 @@ module _ (d : Desk) (at size : ℕ) (bytes y c : List ℕ) where
       ∙ ap (drop (2 * n)) (take-append-drop size (drop at bytes))
       ∙ drop-drop (2 * n) at bytes
 
-  pub rushed : (room : List ℕ) {x : Run} {words y' c' : List ℕ} {f : Fed} → x ≡ run_of d.reader part (length room) → words ≡ run_words d.reader part room
-      → f ≡ fed d.session (take x.words words) y c → y' ≡ fed_y d.session (take x.words words) y c → c' ≡ fed_c d.session (take x.words words) y c
-      → f.refusal ≡ 0
-      → walked (drop at bytes) (walk (standing d y c) at nothing)
-      ≡ walked (drop (at + 2 * x.words) bytes) (walk (standing (desk x.reader f.session) y' c') (at + 2 * x.words) nothing)
-  rushed room {x} {words} ex ew ef ey ec taken =
-      let s = d.session in
+  pub rushed : (room : List ℕ) {x : Run} {words y' c' : List ℕ} {after : Session} → x ≡ run_of d.reader part (length room) → words ≡ run_words d.reader part room
+      → Ok after ≡ fed d.session (take x.words words) y c → y' ≡ fed_y d.session (take x.words words) y c → c' ≡ fed_c d.session (take x.words words) y c
+      → Ahead bytes (standing d y c) at (standing (desk x.reader after) y' c') (at + 2 * x.words)
+  rushed room {x} {words} ex ew ef ey ec =
       let n = x.words in
       let many : n ≡ run_size d.reader part (length room) = ap (λ (r : Run). r.words) ex in
       let long : 2 * n ≤ length part = omega arith in
       let same : take n words ≡ take n (words_in part) = rw (ew, ← many) (first_over n part room long) in
-      let after : x.reader ≡ after_words n d.reader part = rw many (ap (λ (r : Run). r.reader) ex) in
-      let none : feed_refusal s (take n words) y c ≡ 0 = sym (fed_refusal s (take n words) y c) ∙ sym (ap (λ (r : Fed). r.refusal) ef) ∙ taken in
-      let once = at_once n d part (drop size (drop at bytes)) y c at long (omega arith) (rw same at none) in
-      rw (ef, ey, ec, same, after) (rw (take-append-drop size (drop at bytes), parted n long) at once)
+      let reader : x.reader ≡ after_words n d.reader part = rw many (ap (λ (r : Run). r.reader) ex) in
+      let taken = rw same at ef in
+      let none = feed_answers d.session (take n (words_in part)) y c taken in
+      let once = at_once n d part (drop size (drop at bytes)) y c at long (omega arith) none in
+      record {
+        onward = omega arith;
+        within = omega (arith, (run_within d.reader size (drop at bytes) (length room) ex).0);
+        rest = rw (ey, ec, same, reader) (rw (take-append-drop size (drop at bytes), parted n long, ← taken) at once);
+      }
 
--- a feed that is refused changes no buffer
-pub unchanged : (s : Session) (ws y c : List ℕ) {f : Fed} {y' c' : List ℕ} → f ≡ fed s ws y c → y' ≡ fed_y s ws y c → c' ≡ fed_c s ws y c → (f.refusal ≡ 0 → ⊥)
-    → (y' ≡ y) × (c' ≡ c)
-unfolding fed_y fed_c
-unchanged s ws y c ef ey ec bad =
-    let refused : feed_refusal s ws y c ≡ 0 → ⊥ = λ z. bad (ap (λ (r : Fed). r.refusal) ef ∙ fed_refusal s ws y c ∙ z) in
-    (ey ∙ unless_refused-refused _ _ _ refused, ec ∙ unless_refused-refused _ _ _ refused)
+  -- a feed that is refused changes no buffer
+  pub unchanged : (ws : List ℕ) {refusal : Refusal} {y' c' : List ℕ} → Err refusal ≡ fed d.session ws y c → y' ≡ fed_y d.session ws y c → c' ≡ fed_c d.session ws y c
+      → (y' ≡ y) × (c' ≡ c)
+  unfolding fed fed_y fed_c
+  unchanged ws e ey ec =
+      let s = d.session in
+      let bad = (result_of_err (fed_session s ws (fed_run s ws y c)) (feed_refusal s ws y c) (sym e)).0 in
+      (ey ∙ unless_refused-refused _ (fed_run s ws y c).y y bad, ec ∙ unless_refused-refused _ (fed_run s ws y c).c c bad)
+
+  pub unrushed : (ws : List ℕ) {refusal : Refusal} {y' c' : List ℕ} → Err refusal ≡ fed d.session ws y c → y' ≡ fed_y d.session ws y c → c' ≡ fed_c d.session ws y c
+      → Ahead bytes (standing d y c) at (standing d y' c') at
+  unrushed ws e ey ec = let same = unchanged ws e ey ec in rw (same.0, same.1) (ahead_none bytes (standing d y c) at start)

@@ -1,21 +1,17 @@
 -- Laws of a take that is refused.
-use mathlib.Core.Path.{◌≡◌, refl, ap, ◌∙◌}
+use mathlib.Core.Path.{◌≡◌, refl, sym}
 use Prim.Native.Nat.{ℕ, zero, suc}
+use lib.Dec.{eqb}
+use Rattle.std.specs.Prelude.{is_ok}
+use Rattle.std.proofs.Math.Dec.{eqb-suc-zero}
+use Rattle.refusal.specs.Refusal.{result_of}
 use Rattle.session.specs.declared.Session.{Session}
-use Rattle.session.specs.declared.Ended.{Ended}
-use Rattle.session.specs.Session.{end_refusal, ended, ended_by}
-use Rattle.desk.specs.declared.Desk.{Desk}
-use Rattle.desk.specs.Desk.{nothing, Walk, taken_by}
+use Rattle.session.specs.Session.{end_refusal, ended, ended_as}
 
--- the number that an end answers
-pub ended_refusal : (s : Session) {e : Ended} → e ≡ ended s → e.refusal ≡ end_refusal s
+pub end_is_ok : (s : Session) → is_ok (ended s) ≡ eqb (end_refusal s) 0
 unfolding ended
-ended_refusal s e = ap (λ (x : Ended). x.refusal) e ∙ go (end_refusal s)
+end_is_ok s = go (end_refusal s)
   where
-    go : (n : ℕ) → (ended_by n s).refusal ≡ n
+    go : (n : ℕ) → is_ok (result_of n (ended_as s)) ≡ eqb n 0
     go zero = refl
-    go (suc n) = refl
-
-pub taken_by-refused : (n : ℕ) (d : Desk) (x : Walk) → (n ≡ 0 → ⊥) → taken_by n d x ≡ record { refusal = n; desk = d; taken = 0; outcome = nothing }
-taken_by-refused zero d x bad = absurd (bad refl)
-taken_by-refused (suc n) d x bad = refl
+    go (suc n) = sym (eqb-suc-zero n)

@@ -1,23 +1,25 @@
 -- A desk takes the bytes of a bench file as they arrive, and runs a session per job.
-use Rattle.std.specs.Prelude.{◌≡◌, Bool, true, false, not, ◌&&◌, List, [], ◌∷◌, ℕ, zero, suc, ◌+◌, ◌≤◌, ◌<◌, leb, eqb, length, drop}
+use Rattle.std.specs.Prelude.{◌≡◌, Bool, true, false, ◌&&◌, List, [], ◌∷◌, ℕ, ◌+◌, ◌≤◌, ◌<◌, leb, eqb, length, drop, Result, Ok, Err}
+use Rattle.std.specs.Result.{result_unwrap_or}
 use Rattle.bits.specs.Choice.{if}
+use Rattle.refusal.specs.declared.Refusal.{Refusal}
+use Rattle.refusal.specs.Refusal.{number_of, result_of}
 use Rattle.parts.specs.Parts.{unless_refused}
 use Rattle.tally.specs.declared.Verdict.TheVariants as Verdict
 use Rattle.tally.specs.Tally.{no_counts}
 use Rattle.session.specs.declared.Session.{Session}
 use Rattle.session.specs.declared.Ended.{Ended}
-use Rattle.session.specs.Session.{closed, begun, fed, fed_y, fed_c, end_refusal, ended}
+use Rattle.session.specs.Session.{closed, begun, fed, fed_y, fed_c, end_refusal, ended, session_or}
 use Rattle.reader.specs.declared.Stage.{Stage}
 use Rattle.reader.specs.declared.Stage.TheVariants.{TagCount, TagBytes, OptionsCount, RasterByte, WipeByte, WordCount, LowByte, HighByte, Stopped}
 use Rattle.reader.specs.declared.Reader.{Reader}
 use Rattle.reader.specs.declared.Piece.{Piece}
-use Rattle.reader.specs.declared.Piece.TheVariants.{More, Chosen, Word, Refused}
+use Rattle.reader.specs.declared.Piece.TheVariants.{More, Chosen, Word}
 use Rattle.reader.specs.declared.Read.{Read}
-use Rattle.reader.specs.Reader.{fresh, no_tag, read_of, is_cut}
+use Rattle.reader.specs.Reader.{fresh, stopped, read_of, is_cut}
 use Rattle.desk.specs.declared.Job.{Job}
-use Rattle.desk.specs.declared.Kind.{Kind}
-use Rattle.desk.specs.declared.Kind.TheVariants.{Nothing, Done, BadFile}
 use Rattle.desk.specs.declared.Outcome.{Outcome}
+use Rattle.desk.specs.declared.Outcome.TheVariants.{Nothing, Done, BadFile}
 use Rattle.desk.specs.declared.Desk.{Desk}
 use Rattle.desk.specs.declared.Turn.{Turn}
 use Rattle.desk.specs.declared.Taken.{Taken}
@@ -29,86 +31,78 @@ desk r s = record { reader = r; session = s }
 abbrev pub fresh_desk : Desk
 fresh_desk = desk fresh closed
 
--- ---- outcomes: no job's end yet; a job is done; the file is refused. Only the second has a job.
-
-abbrev pub no_job : Job
-no_job = record { tag = no_tag; raster = 0; wipe = false; counts = no_counts; verdict = Verdict.Refused }
-
-abbrev pub jobless : Kind → Outcome
-jobless kind = record { kind = kind; job = no_job }
+-- ---- outcomes: no job's end yet; a job is done; the file is refused
 
 abbrev pub nothing : Outcome
-nothing = jobless Nothing
+nothing = Nothing
 
 abbrev pub done : Job → Outcome
-done j = record { kind = Done; job = j }
+done j = Done j
 
 abbrev pub bad_file : ℕ → Outcome
-bad_file n = jobless (BadFile n)
+bad_file n = BadFile n
 
-abbrev pub is_nothing : Kind → Bool
+abbrev pub is_nothing : Outcome → Bool
 is_nothing Nothing = true
-is_nothing Done = false
+is_nothing (Done j) = false
 is_nothing (BadFile n) = false
 
 -- ---- a byte
 
--- the session after what a byte brought: begun anew by a job's options, fed with its words, closed where the file is refused
+-- the session after what a byte completed: begun anew by a job's options, fed with its words
 abbrev pub session_after : Piece → Session → List ℕ → List ℕ → Session
 session_after More s y c = s
-session_after (Chosen code) s y c = (begun closed code).session
-session_after (Word w) s y c = (fed s (w ∷ []) y c).session
-session_after (Refused n) s y c = closed
+session_after (Chosen code) s y c = session_or closed (begun closed code)
+session_after (Word w) s y c = session_or s (fed s (w ∷ []) y c)
 
 -- the row buffers: words write them, nothing else does
 abbrev pub y_after : Piece → Session → List ℕ → List ℕ → List ℕ
 y_after More s y c = y
 y_after (Chosen code) s y c = y
 y_after (Word w) s y c = fed_y s (w ∷ []) y c
-y_after (Refused n) s y c = y
 
 abbrev pub c_after : Piece → Session → List ℕ → List ℕ → List ℕ
 c_after More s y c = c
 c_after (Chosen code) s y c = c
 c_after (Word w) s y c = fed_c s (w ∷ []) y c
-c_after (Refused n) s y c = c
+
+-- a session's end, or, where it is refused, nothing of any job and the session as it was
+abbrev pub end_of : Session → Ended
+end_of s = result_unwrap_or (ended s) (record { raster = 0; counts = no_counts; verdict = Verdict.Refused; session = s })
 
 -- what is known of a job at its end
 abbrev pub job_of : Reader → Ended → Job
 job_of r e = record { tag = r.tag; raster = e.raster; wipe = r.options.wipe; counts = e.counts; verdict = e.verdict }
 
--- the outcome of a byte that ends no job
-abbrev pub outcome_of : Piece → Outcome
-outcome_of More = nothing
-outcome_of (Chosen code) = nothing
-outcome_of (Word w) = nothing
-outcome_of (Refused n) = bad_file n
-
--- a byte that completes nothing and ends no job
-abbrev pub is_more : Piece → Bool → Bool
-is_more More ends = not ends
-is_more (Chosen code) ends = false
-is_more (Word w) ends = false
-is_more (Refused n) ends = false
-
 abbrev pub turn : Desk → Outcome → Turn
 turn d o = record { desk = d; outcome = o }
 
--- of a byte that ends a job, and of one that does not; s is the session after what it brought
+-- of a byte that ends a job, and of one that does not; s is the session after what it completed
 abbrev pub turn_by : Bool → Reader → Read → Session → Turn
-turn_by true before x s = turn (desk x.reader (ended s).session) (done (job_of before (ended s)))
-turn_by false before x s = turn (desk x.reader s) (outcome_of x.piece)
+turn_by true before x s = turn (desk x.reader (end_of s).session) (done (job_of before (end_of s)))
+turn_by false before x s = turn (desk x.reader s) nothing
+
+-- by what was read: "on a refusal .. stops", with nothing of the job
+abbrev pub turn_read : Result Read Refusal → Desk → List ℕ → List ℕ → Turn
+turn_read (Ok x) d y c = turn_by x.ends d.reader x (session_after x.piece d.session y c)
+turn_read (Err refusal) d y c = turn (desk stopped closed) (bad_file (number_of refusal))
+
+abbrev pub y_read : Result Read Refusal → Session → List ℕ → List ℕ → List ℕ
+y_read (Ok x) s y c = y_after x.piece s y c
+y_read (Err refusal) s y c = y
+
+abbrev pub c_read : Result Read Refusal → Session → List ℕ → List ℕ → List ℕ
+c_read (Ok x) s y c = c_after x.piece s y c
+c_read (Err refusal) s y c = c
 
 unfoldable pub turned : Desk → ℕ → List ℕ → List ℕ → Turn
-turned d b y c =
-    let x : Read = read_of d.reader b in
-    turn_by x.ends d.reader x (session_after x.piece d.session y c)
+turned d b y c = turn_read (read_of d.reader b) d y c
 
 unfoldable pub turned_y : Desk → ℕ → List ℕ → List ℕ → List ℕ
-turned_y d b y c = y_after (read_of d.reader b).piece d.session y c
+turned_y d b y c = y_read (read_of d.reader b) d.session y c
 
 unfoldable pub turned_c : Desk → ℕ → List ℕ → List ℕ → List ℕ
-turned_c d b y c = c_after (read_of d.reader b).piece d.session y c
+turned_c d b y c = c_read (read_of d.reader b) d.session y c
 
 -- a desk and the row buffers; where they stand after a byte, and what it brought
 pub record Standing : Type 0 where
@@ -141,7 +135,7 @@ walked_one b w = walk (next b w.at) (w.taken + 1) (brought b w.at)
 
 unfoldable pub walked : List ℕ → Walk → Walk
 walked [] w = w
-walked (b ∷ bs) w = if (is_nothing w.outcome.kind) (walked bs (walked_one b w)) w
+walked (b ∷ bs) w = if (is_nothing w.outcome) (walked bs (walked_one b w)) w
 
 abbrev pub walk_of : Desk → List ℕ → List ℕ → List ℕ → Walk
 walk_of d bs y c = walked bs (walk (standing d y c) 0 nothing)
@@ -181,13 +175,11 @@ take_refusal d y c =
     (if (leb longest (length y) && leb longest (length c)) 0 1)
     7
 
--- what is answered, or "A refusal returns its number with zeros .. and changes no buffer and no session."
-abbrev pub taken_by : ℕ → Desk → Walk → Taken
-taken_by zero d w = record { refusal = 0; desk = w.at.desk; taken = w.taken; outcome = w.outcome }
-taken_by (suc n) d w = record { refusal = suc n; desk = d; taken = 0; outcome = nothing }
+abbrev pub taken_at : Walk → Taken
+taken_at w = record { desk = w.at.desk; taken = w.taken; outcome = w.outcome }
 
-unfoldable pub taken : Desk → List ℕ → List ℕ → List ℕ → Taken
-taken d bs y c = taken_by (take_refusal d y c) d (walk_of d bs y c)
+unfoldable pub taken : Desk → List ℕ → List ℕ → List ℕ → Result Taken Refusal
+taken d bs y c = result_of (take_refusal d y c) (taken_at (walk_of d bs y c))
 
 unfoldable pub taken_y : Desk → List ℕ → List ℕ → List ℕ → List ℕ
 taken_y d bs y c = unless_refused (take_refusal d y c) (walk_of d bs y c).at.y y

@@ -1,10 +1,14 @@
 // A desk: takes the bytes of a bench file as they arrive, in pieces of any size, and runs a session per job.
 #![tactic(auto)]
 
-ghost use Rattle.std.specs.Prelude.{◌≡◌, ◌<◌, length};
-ghost use Rattle.desk.specs.Desk.{Ahead, AheadAlone, c_after, desk, done, finished, fresh_desk, is_more, is_nothing, jobless, job_of, outcome_of, session_after, standing, taken, taken_c, taken_y, take_refusal, turn, turned, turned_c, turned_y, words_at, y_after};
+ghost use Rattle.std.specs.Prelude.{◌≡◌, true, ◌<◌, eqb, length};
+ghost use Rattle.bits.specs.Choice.{if};
+ghost use Rattle.refusal.specs.Refusal.{result_of};
+ghost use Rattle.session.specs.Session.{end_refusal};
+ghost use Rattle.desk.specs.Desk.{Ahead, AheadAlone, c_after, end_of, finished, fresh_desk, is_nothing, job_of, session_after, standing, taken, taken_c, taken_y, take_refusal, turned, turned_c, turned_y, walk, walk_of, words_at, y_after};
 
-use reader::{Piece, Reader, Stage, Tag};
+use reader::{Piece, Read, Reader, Stage, Tag};
+use refusal::Refusal;
 use session::{Ended, Session};
 use tally::{Counts, Verdict};
 
@@ -17,19 +21,12 @@ pub struct Job {
     pub verdict: Verdict,
 }
 
-// Of bytes: no job's end is among them; a job is done; the file is refused.
+// Of bytes: no job's end is among them; a job is done; the file is refused. Its number and no `Refusal`: a line is printed of any number.
 #[derive(Clone, Copy)]
-pub enum Kind {
+pub enum Outcome {
     Nothing,
-    Done,
+    Done(Job),
     BadFile(u8),
-}
-
-// The job that is done; an empty one where none is.
-#[derive(Clone, Copy)]
-pub struct Outcome {
-    pub kind: Kind,
-    pub job: Job,
 }
 
 // The session is open while a job's words are read, and counts for nothing else.
@@ -44,20 +41,7 @@ const FEW: usize = 256;
 
 const MANY: usize = 1024;
 
-// The reader after bytes that it read alone, and where the bytes after them start.
-#[derive(Clone, Copy)]
-struct Skimmed {
-    reader: Reader,
-    at: usize,
-}
-
-// The desk after bytes that were taken ahead, and where the bytes after them start.
-#[derive(Clone, Copy)]
-struct Rushed {
-    desk: Desk,
-    at: usize,
-}
-
+// The desk after a byte, and what it brought.
 #[derive(Clone, Copy)]
 struct Turn {
     desk: Desk,
@@ -67,12 +51,12 @@ struct Turn {
 // How many bytes were taken: up to the one that ends a job or is refused, or all.
 #[derive(Clone, Copy)]
 pub struct Taken {
-    pub refusal: u8,
     pub desk: Desk,
     pub taken: usize,
     pub outcome: Outcome,
 }
 
+// The session after what a byte completed.
 fn session_after(piece: Piece, session: Session, y: &mut [u16], c: &mut [u16]) -> Session
     ensures answer { result ≡ session_after piece session y.old c.old }
     ensures yrow { y.new ≡ y_after piece session y.old c.old }
@@ -80,166 +64,89 @@ fn session_after(piece: Piece, session: Session, y: &mut [u16], c: &mut [u16]) -
 {
     match piece {
         Piece::More => session,
-        Piece::Chosen(raster) => Session::fresh().begin(raster as u32).session,
-        Piece::Word(word) => session.feed(&[word], y, c).session,
-        Piece::Refused(_) => Session::fresh(),
+        Piece::Chosen(raster) => {
+            let closed = Session::fresh();
+            closed.begin(u32::from(raster)).unwrap_or(closed)
+        }
+        Piece::Word(word) => session.feed(&[word], y, c).unwrap_or(session),
     }
 }
 
-// An outcome with no job.
-fn jobless(kind: Kind) -> Outcome
-    ensures { result ≡ jobless kind }
+// What a session's end tells; nothing, and the session as it is, where it is refused. No call of `take` comes to that.
+fn end_of(session: Session) -> Ended
+    ensures { result ≡ end_of session }
 {
-    let tag = Reader::fresh().tag;
-    let job = Job {
-        tag,
+    session.end().unwrap_or(Ended {
         raster: 0,
-        wipe: false,
         counts: Counts::none(),
         verdict: Verdict::Refused,
-    };
-    Outcome { kind, job }
+        session,
+    })
 }
 
-fn outcome_of(piece: Piece) -> Outcome
-    ensures { result ≡ outcome_of piece }
+// The job whose head this reader has.
+fn job_of(reader: Reader, ended: Ended) -> Job
+    ensures { result ≡ job_of reader ended }
 {
-    match piece {
-        Piece::More => jobless(Kind::Nothing),
-        Piece::Chosen(_) => jobless(Kind::Nothing),
-        Piece::Word(_) => jobless(Kind::Nothing),
-        Piece::Refused(number) => jobless(Kind::BadFile(number)),
-    }
-}
-
-// A job is done: `before` is the reader that has its head.
-fn done_by(before: Reader, ended: Ended) -> Outcome
-    ensures { result ≡ done (job_of before ended) }
-{
-    let tag = before.tag;
-    let counts = ended.counts;
-    let verdict = ended.verdict;
-    let job = Job {
-        tag,
+    Job {
+        tag: reader.tag,
         raster: ended.raster,
-        wipe: before.options.wipe,
-        counts,
-        verdict,
-    };
-    Outcome {
-        kind: Kind::Done,
-        job,
+        wipe: reader.options.wipe,
+        counts: ended.counts,
+        verdict: ended.verdict,
     }
 }
 
-fn turn_of(reader: Reader, session: Session, outcome: Outcome) -> Turn
-    ensures { result ≡ turn (desk reader session) outcome }
-{
-    let desk = Desk { reader, session };
-    Turn { desk, outcome }
-}
-
-fn rushed_to(at: usize, reader: Reader, session: Session) -> Rushed
-    ensures { result ≡ record { desk = desk reader session; at = at } }
-{
-    let desk = Desk { reader, session };
-    Rushed { desk, at }
-}
-
-fn is_nothing(kind: Kind) -> bool
-    ensures { result ≡ is_nothing kind }
-{
-    match kind {
-        Kind::Nothing => true,
-        Kind::Done => false,
-        Kind::BadFile(_) => false,
-    }
-}
-
+// Whether words are read, so that a session must be open.
 fn words_at(stage: Stage) -> bool
     ensures { result ≡ words_at stage }
 {
-    match stage {
-        Stage::TagCount => false,
-        Stage::TagBytes => false,
-        Stage::OptionsCount => false,
-        Stage::RasterByte => false,
-        Stage::WipeByte => false,
-        Stage::WordCount => true,
-        Stage::LowByte => true,
-        Stage::HighByte => true,
-        Stage::Stopped => false,
-    }
-}
-
-// Whether a byte completes nothing and ends no job: then it changes the reader alone.
-fn is_more(piece: Piece, ends: bool) -> bool
-    ensures { result ≡ is_more piece ends }
-{
-    match piece {
-        Piece::More => !ends,
-        Piece::Chosen(_) => false,
-        Piece::Word(_) => false,
-        Piece::Refused(_) => false,
-    }
+    matches!(stage, Stage::WordCount | Stage::LowByte | Stage::HighByte)
 }
 
 // Whether the next byte is of a job's head. It spares time: no answer goes by it.
 fn is_head(stage: Stage) -> bool {
-    match stage {
-        Stage::TagCount => true,
-        Stage::TagBytes => true,
-        Stage::OptionsCount => true,
-        Stage::RasterByte => true,
-        Stage::WipeByte => true,
-        Stage::WordCount => true,
-        Stage::LowByte => false,
-        Stage::HighByte => false,
-        Stage::Stopped => false,
-    }
+    !matches!(stage, Stage::LowByte | Stage::HighByte | Stage::Stopped)
 }
 
-// How many words to make room for, of the bytes from `at` to the last: no more than all that are left but the last, which ends a job.
+// How many words to make room for, of so many bytes: no more than all that are left but the last, which ends a job.
 // It spares time: how many are taken is for the reader to say.
-fn words_ahead(reader: Reader, at: usize, last: usize) -> usize {
-    let stage = reader.stage;
-    let left = reader.count.left as usize;
-    if is_head(stage) {
+fn words_ahead(reader: Reader, bytes: usize) -> usize {
+    if is_head(reader.stage) {
         return 0;
     }
-    if left < 2 {
-        return 0;
-    }
-    if last <= at {
-        return 0;
-    }
-    if (last - at) / 2 < left {
-        return (last - at) / 2;
-    }
-    left - 1
+    (reader.count.left.saturating_sub(1) as usize).min(bytes / 2)
 }
 
-// Reads bytes of a job's head that complete nothing, with the reader alone, and leaves a byte or more.
-fn skim(mut reader: Reader, bytes: &[u8], at: usize) -> Skimmed
+// Reads bytes of a job's head that complete nothing, with the reader alone, and leaves a byte or more. Answers the reader and where it stands.
+#[tactic(auto, using(crate::proofs::Skimming::ahead_none, crate::proofs::Skimming::ahead_then, crate::proofs::Skimming::ahead_more))]
+fn skim(mut reader: Reader, bytes: &[u8], at: usize) -> (Reader, usize)
     requires { at < length bytes.now }
-    ensures { AheadAlone bytes.now reader at result.reader result.at }
+    ensures within { result.1 < length bytes.now }
+    ensures ahead { AheadAlone bytes.now reader at result.0 result.1 }
 {
     let last = bytes.len() - 1;
-    let mut i = at;
-    while i < last {
-        let stage = reader.stage;
-        if !is_head(stage) {
-            break;
+    for i in at..last {
+        match reader.read(bytes[i]) {
+            Ok(
+                Read {
+                    piece: Piece::More,
+                    ends: false,
+                    reader: next,
+                },
+            ) if is_head(reader.stage) => reader = next,
+            _ => return (reader, i),
         }
-        let read = reader.read(bytes[i]);
-        let piece = read.piece;
-        if !is_more(piece, read.ends) {
-            break;
-        }
-        reader = read.reader;
-        i += 1;
     }
-    Skimmed { reader, at: i }
+    (reader, last)
+}
+
+impl Outcome {
+    fn is_nothing(self) -> bool
+        ensures { result ≡ is_nothing self }
+    {
+        matches!(self, Outcome::Nothing)
+    }
 }
 
 impl Desk {
@@ -257,122 +164,149 @@ impl Desk {
     }
 
     // Takes a byte.
+    #[tactic(auto, unfolding(crate::specs::Desk::turned, crate::specs::Desk::turned_y, crate::specs::Desk::turned_c))]
     fn turn(self, byte: u8, y: &mut [u16], c: &mut [u16]) -> Turn
         ensures answer { result ≡ turned self byte y.old c.old }
         ensures yrow { y.new ≡ turned_y self byte y.old c.old }
         ensures crow { c.new ≡ turned_c self byte y.old c.old }
     {
-        let read = self.reader.read(byte);
-        let piece = read.piece;
-        let session = session_after(piece, self.session, y, c);
+        let read = match self.reader.read(byte) {
+            Ok(read) => read,
+            Err(refusal) => {
+                return Turn {
+                    desk: Desk {
+                        reader: Reader::stopped(),
+                        ..Desk::fresh()
+                    },
+                    outcome: Outcome::BadFile(u8::from(refusal)),
+                };
+            }
+        };
+        let desk = Desk {
+            reader: read.reader,
+            session: session_after(read.piece, self.session, y, c),
+        };
         if !read.ends {
-            return turn_of(read.reader, session, outcome_of(piece));
+            return Turn {
+                desk,
+                outcome: Outcome::Nothing,
+            };
         }
-        let ended = session.end();
-        turn_of(read.reader, ended.session, done_by(self.reader, ended))
+        let ended = end_of(desk.session);
+        Turn {
+            desk: Desk {
+                session: ended.session,
+                ..desk
+            },
+            outcome: Outcome::Done(job_of(self.reader, ended)),
+        }
     }
 
     // Takes words at once, and leaves a byte or more. Words that `feed` refuses are left too, for the byte that is at fault to be met.
-    fn rush(self, bytes: &[u8], at: usize, room: &mut [u16], y: &mut [u16], c: &mut [u16]) -> Rushed
+    // Answers the desk and where it stands.
+    #[tactic(auto, using(crate::proofs::Rushing::run_within, crate::proofs::Rushing::rushed, crate::proofs::Rushing::unrushed))]
+    fn rush(
+        self,
+        bytes: &[u8],
+        at: usize,
+        room: &mut [u16],
+        y: &mut [u16],
+        c: &mut [u16],
+    ) -> (Desk, usize)
         requires { at < length bytes.now }
-        ensures { Ahead bytes.now (standing self y.old c.old) at (standing result.desk y.new c.new) result.at }
+        ensures { Ahead bytes.now (standing self y.old c.old) at (standing result.0 y.new c.new) result.1 }
     {
         let last = bytes.len() - 1;
         let run = section::read_words(self.reader, &bytes[at..last], room);
-        let n = run.words;
-        let end = at + 2 * n;
-        let fed = self.session.feed(&room[..n], y, c);
-        if fed.refusal != 0 {
-            return Rushed { desk: self, at };
+        match self.session.feed(&room[..run.words], y, c) {
+            Ok(session) => (
+                Desk {
+                    reader: run.reader,
+                    session,
+                },
+                at + 2 * run.words,
+            ),
+            Err(_) => (self, at),
         }
-        rushed_to(end, run.reader, fed.session)
     }
 
-    // Takes what need not go through a turn: of a job's head, and then words. Leaves a byte or more.
-    fn hasten(self, bytes: &[u8], at: usize, y: &mut [u16], c: &mut [u16]) -> Rushed
+    // Takes what need not go through a turn: of a job's head, and then words. Leaves a byte or more. Answers the desk and where it stands.
+    #[tactic(auto, using(crate::proofs::Skimming::ahead_then))]
+    fn hasten(self, bytes: &[u8], at: usize, y: &mut [u16], c: &mut [u16]) -> (Desk, usize)
         requires { at < length bytes.now }
-        ensures { Ahead bytes.now (standing self y.old c.old) at (standing result.desk y.new c.new) result.at }
+        ensures { Ahead bytes.now (standing self y.old c.old) at (standing result.0 y.new c.new) result.1 }
     {
-        let skimmed = skim(self.reader, bytes, at);
-        let start = rushed_to(skimmed.at, skimmed.reader, self.session);
-        let from = start.at;
-        let ahead = words_ahead(skimmed.reader, from, bytes.len() - 1);
-        if ahead == 0 {
-            return start;
+        let (reader, from) = skim(self.reader, bytes, at);
+        let desk = Desk { reader, ..self };
+        match words_ahead(reader, bytes.len() - 1 - from) {
+            0 => (desk, from),
+            1..=FEW => desk.rush(bytes, from, &mut [0; FEW], y, c),
+            _ => desk.rush(bytes, from, &mut [0; MANY], y, c),
         }
-        if ahead <= FEW {
-            let mut few = [0u16; FEW];
-            return start.desk.rush(bytes, from, &mut few, y, c);
-        }
-        let mut many = [0u16; MANY];
-        start.desk.rush(bytes, from, &mut many, y, c)
+    }
+
+    // Whether a session is open where words are read.
+    #[tactic(auto, using(crate::proofs::Taking::end_is_ok))]
+    fn is_ready(self) -> bool
+        ensures { result ≡ if (words_at self.reader.stage) (eqb (end_refusal self.session) 0) true }
+    {
+        !words_at(self.reader.stage) || self.session.end().is_ok()
     }
 
     // The refusal of taking; 7, 1.
-    fn take_refusal(self, y: &[u16], c: &[u16]) -> u8
-        ensures { result ≡ take_refusal self y.now c.now }
+    #[tactic(auto, unfolding(crate::specs::Desk::take_refusal, refusal::specs::Refusal::refusal_numbered))]
+    fn take_refusal(self, y: &[u16], c: &[u16]) -> Result<(), Refusal>
+        ensures { result ≡ result_of (take_refusal self y.now c.now) tt }
     {
-        let reader = self.reader;
-        let stage = reader.stage;
-        if words_at(stage) {
-            if self.session.end().refusal != 0 {
-                return 7;
-            }
+        if !self.is_ready() {
+            return Err(Refusal::OutOfTurn);
         }
-        if y.len() < Desk::LONGEST {
-            return 1;
+        if y.len() < Desk::LONGEST || c.len() < Desk::LONGEST {
+            return Err(Refusal::NoRoom);
         }
-        if c.len() < Desk::LONGEST {
-            return 1;
-        }
-        0
+        Ok(())
     }
 
     // Takes bytes up to the one that ends a job or is refused; the row buffers are lent; 7, 1.
-    pub fn take(self, bytes: &[u8], y: &mut [u16], c: &mut [u16]) -> Taken
+    pub fn take(self, bytes: &[u8], y: &mut [u16], c: &mut [u16]) -> Result<Taken, Refusal>
         ensures answer { result ≡ taken self bytes.now y.old c.old }
         ensures yrow { y.new ≡ taken_y self bytes.now y.old c.old }
         ensures crow { c.new ≡ taken_c self bytes.now y.old c.old }
     {
-        let refusal = self.take_refusal(y, c);
-        let mut desk = self;
-        let mut outcome = jobless(Kind::Nothing);
-        let mut at = 0;
-        if refusal != 0 {
-            return Taken {
-                refusal,
+        self.take_refusal(y, c)?;
+        Ok(self.walk(bytes, y, c))
+    }
+
+    // Takes bytes where nothing is refused. No `for`: each round takes as many at once as it may, and one more.
+    #[tactic(auto, using(crate::proofs::Walking::walked_end, crate::proofs::Walking::walked_stopped))]
+    fn walk(self, bytes: &[u8], y: &mut [u16], c: &mut [u16]) -> Taken
+        ensures { walk_of self bytes.now y.old c.old ≡ walk (standing result.desk y.new c.new) result.taken result.outcome }
+    {
+        let mut walk = Taken {
+            desk: self,
+            taken: 0,
+            outcome: Outcome::Nothing,
+        };
+        while walk.taken < bytes.len() && walk.outcome.is_nothing() {
+            let (desk, at) = walk.desk.hasten(bytes, walk.taken, y, c);
+            let Turn { desk, outcome } = desk.turn(bytes[at], y, c);
+            walk = Taken {
                 desk,
-                taken: at,
+                taken: at + 1,
                 outcome,
             };
         }
-        while at < bytes.len() {
-            let kind = outcome.kind;
-            if !is_nothing(kind) {
-                break;
-            }
-            let rushed = desk.hasten(bytes, at, y, c);
-            let next = rushed.at;
-            let turn = rushed.desk.turn(bytes[next], y, c);
-            desk = turn.desk;
-            outcome = turn.outcome;
-            at = next + 1;
-        }
-        Taken {
-            refusal: 0,
-            desk,
-            taken: at,
-            outcome,
-        }
+        walk
     }
 
     // The end of the input.
+    #[tactic(auto, unfolding(crate::specs::Desk::finished))]
     pub fn finish(self) -> Outcome
         ensures { result ≡ finished self }
     {
         if self.reader.is_cut() {
-            return jobless(Kind::BadFile(9));
+            return Outcome::BadFile(u8::from(Refusal::BadFile));
         }
-        jobless(Kind::Nothing)
+        Outcome::Nothing
     }
 }

@@ -2,11 +2,14 @@
 use mathlib.Core.Path.{◌≡◌, refl, sym, ap, ◌∙◌}
 use mathlib.Core.Bool.{Bool, true, false}
 use mathlib.Core.List.{List, [], ◌∷◌, ◌++◌, append-nil, flat_map}
-use Prim.Native.Nat.{ℕ, zero, suc, ◌-◌, ◌≤◌, ◌<◌}
+use Prim.Native.Nat.{ℕ, zero, suc, ◌-◌, ◌<◌}
 use native.Mathlib.Omega.{arith}
 use lib.Dec.{eqb}
 use lib.ListN.{length}
 use borrow.Author.Tests.{ne_eqb}
+use Rattle.std.specs.Prelude.{Option, None, Some, MatchOption}
+use Rattle.std.specs.Option.{unwrap_or}
+use Rattle.std.specs.Borrow.{Bor}
 use Rattle.bits.specs.Choice.{if}
 use Rattle.bits.proofs.Choice.{false_not_true}
 use Rattle.parts.specs.Parts.{any}
@@ -19,7 +22,7 @@ use Rattle.plan.specs.declared.Plan.{Plan}
 use Rattle.plan.specs.Plan.{plan_of}
 use Rattle.plan.specs.Refusal.{row_refusal}
 use Rattle.region.specs.Ancillary.{blanking_of, active_region, ancillary}
-use Rattle.finding.specs.Find.{wanted, found, find_of}
+use Rattle.finding.specs.Find.{wanted, found, IsFound, find_of}
 
 -- ---- pieces of no words, which no scan finds
 
@@ -55,9 +58,15 @@ pub or_else_first : (r a b : List ℕ) → r ≡ a → 0 < length r → r ≡ or
 or_else_first r [] b e h = absurd (omega (arith, ap length e))
 or_else_first r (w ∷ a) b e h = e
 
-pub or_else_second : (r a b : List ℕ) → r ≡ a → length r ≤ 0 → b ≡ or_else a b
-or_else_second r [] b e h = refl
-or_else_second r (w ∷ a) b e h = absurd (omega (arith, ap length e))
+pub found_or_else : {Next : Type 0} (first result : Option (Bor (List ℕ))) (a b : List ℕ) → IsFound first a
+    → MatchOption first Next (λ x. result ≡ Some x) → (Next → IsFound result b) → IsFound result (or_else a b)
+found_or_else None result a b none next second = rw none (second next)
+found_or_else (Some packet) result a b there same second = rw same (or_else_first packet.now a b there.0 there.1, there.1)
+
+pub found_or_none : (part : Option (Bor (List ℕ))) (none : Bor (List ℕ)) (words : List ℕ) → none.now ≡ [] → IsFound part words
+    → (unwrap_or part none).now ≡ words
+found_or_none None none words empty found = empty ∙ sym found
+found_or_none (Some packet) none words empty found = found.0
 
 module _ (did sdid : ℕ) where
   found_of_append : (ps qs : List Piece) → any empty ps ≡ false → found did sdid (ps ++ qs) ≡ or_else (found did sdid ps) (found did sdid qs)

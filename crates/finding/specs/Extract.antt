@@ -1,13 +1,14 @@
 -- Extracting the packets of a channel.
-use Rattle.std.specs.Prelude.{List, ℕ, zero, suc, leb, length}
+use Rattle.std.specs.Prelude.{List, Result, ℕ, leb, length}
 use Rattle.bits.specs.Choice.{if}
+use Rattle.refusal.specs.declared.Refusal.{Refusal}
+use Rattle.refusal.specs.Refusal.{result_of}
 use Rattle.scan.specs.Scan.{packets_of}
 use Rattle.plan.specs.Plan.{plan_of}
 use Rattle.plan.specs.Refusal.{row_refusal, or_refusal}
 use Rattle.region.specs.Ancillary.{ancillary}
 use Rattle.finding.specs.declared.Channel.{Channel}
 use Rattle.finding.specs.declared.Channel.TheVariants.{Y, C}
-use Rattle.finding.specs.declared.Extracted.{Extracted}
 
 -- the words of the channel that is meant
 abbrev pub channel_of : Channel → List ℕ → List ℕ → List ℕ
@@ -26,10 +27,7 @@ unfoldable pub extract_refusal : ℕ → ℕ → Channel → List ℕ → List �
 extract_refusal code line channel y c room =
     or_refusal (row_refusal code line y c) (room_refusal (packets_in code line (channel_of channel y c)) room)
 
-abbrev pub extracted_for : ℕ → List ℕ → Extracted
-extracted_for zero packets = record { refusal = 0; words = length packets }
-extracted_for (suc n) packets = record { refusal = suc n; words = 0 }
-
-unfoldable pub extracted : ℕ → ℕ → Channel → List ℕ → List ℕ → ℕ → Extracted
+-- how many words were copied
+unfoldable pub extracted : ℕ → ℕ → Channel → List ℕ → List ℕ → ℕ → Result ℕ Refusal
 extracted code line channel y c room =
-    extracted_for (extract_refusal code line channel y c room) (packets_in code line (channel_of channel y c))
+    result_of (extract_refusal code line channel y c room) (length (packets_in code line (channel_of channel y c)))

@@ -1,5 +1,6 @@
 -- Finding a packet.
-use Rattle.std.specs.Prelude.{Bool, false, ◌&&◌, List, [], ◌∷◌, ◌++◌, ℕ, ◌%◌, eqb, get_or}
+use Rattle.std.specs.Prelude.{Bool, false, ◌&&◌, List, [], ◌∷◌, ◌++◌, Option, MatchOption, ℕ, ◌%◌, ◌<◌, ◌≡◌, eqb, get_or, length}
+use Rattle.std.specs.Borrow.{Bor}
 use Rattle.bits.specs.Choice.{if}
 use Rattle.parts.specs.Parts.{unless_refused}
 use Rattle.scan.specs.Scan.{Piece, Word, Marker, Packet, words_of}
@@ -18,6 +19,10 @@ wanted did sdid (Packet p) = eqb (get_or p 3 0 % 256) did && eqb (get_or p 4 0 %
 unfoldable pub found : ℕ → ℕ → List Piece → List ℕ
 found did sdid [] = []
 found did sdid (p ∷ ps) = if (wanted did sdid p) (words_of p) (found did sdid ps)
+
+-- a part that was found has these words, at least one; where none was, they are none
+abbrev pub IsFound : Option (Bor (List ℕ)) → List ℕ → Type 0
+IsFound part words = MatchOption part (words ≡ []) (λ packet. (packet.now ≡ words) × (0 < length packet.now))
 
 -- "Y before C"; nothing where the call is refused
 unfoldable pub find_of : ℕ → ℕ → ℕ → ℕ → List ℕ → List ℕ → List ℕ

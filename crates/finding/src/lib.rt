@@ -2,15 +2,17 @@
 #![tactic(auto)]
 
 ghost use Rattle.std.specs.Prelude.{◌≡◌, ◌+◌, ◌≤◌, length};
+ghost use Rattle.refusal.specs.Refusal.{result_of};
 ghost use Rattle.parts.specs.Parts.{laid, laid_unless};
 ghost use Rattle.scan.specs.Scan.{Packet, packets_of, scan};
+ghost use Rattle.plan.specs.Plan.{plan_of};
 ghost use Rattle.plan.specs.Refusal.{row_refusal};
 ghost use Rattle.region.specs.Ancillary.{ancillary};
-ghost use Rattle.finding.specs.Find.{find_of, found, wanted};
-ghost use Rattle.finding.specs.Extract.{channel_of, extract_refusal, extracted, extracted_for, packets_in, room_refusal};
+ghost use Rattle.finding.specs.Find.{IsFound, find_of, found, wanted};
+ghost use Rattle.finding.specs.Extract.{channel_of, extract_refusal, extracted, packets_in, room_refusal};
 
 use plan::Plan;
-use scan::Here;
+use refusal::Refusal;
 
 #[derive(Clone, Copy)]
 pub enum Channel {
@@ -18,10 +20,24 @@ pub enum Channel {
     C,
 }
 
-#[derive(Clone, Copy)]
-pub struct Extracted {
-    pub refusal: u8,
-    pub words: usize,
+impl Channel {
+    // The words of the channel.
+    fn words<'a>(self, y: &'a [u16], c: &'a [u16]) -> &'a [u16]
+        ensures { result.now ≡ channel_of self y.now c.now }
+    {
+        match self {
+            Channel::Y => y,
+            Channel::C => c,
+        }
+    }
+}
+
+// The plan of a row that is read; 4, 5, 2, 3.
+fn row_plan(raster: u32, line: u32, y: &[u16], c: &[u16]) -> Result<Plan, Refusal>
+    ensures { result ≡ result_of (row_refusal raster line y.now c.now) (plan_of raster line) }
+{
+    plan::row_refusal(raster, line, y, c)?;
+    plan::plan_of(raster, line)
 }
 
 // Whether a packet has the wanted bytes.
@@ -29,54 +45,30 @@ fn is_wanted(packet: &[u16], did: u8, sdid: u8) -> bool
     requires { 7 ≤ length packet.now }
     ensures { result ≡ wanted did sdid (Packet packet.now) }
 {
-    if packet[3] % 256 != did as u16 {
-        return false;
-    }
-    packet[4] % 256 == sdid as u16
+    packet[3] % 256 == did as u16 && packet[4] % 256 == sdid as u16
 }
 
-// The first wanted packet of a region, or an empty part.
-fn find_in<'a>(region: &'a [u16], did: u8, sdid: u8) -> &'a [u16]
-    ensures { result.now ≡ found did sdid (scan region.now) }
+// The first wanted packet of a region.
+fn find_in<'a>(region: &'a [u16], did: u8, sdid: u8) -> Option<&'a [u16]>
+    ensures { IsFound result (found did sdid (scan region.now)) }
 {
-    let mut i = 0;
-    'scan: while i < region.len() {
-        let here = scan::here_at(region, i);
-        match here {
-            Here::Nothing => {
-                i += 1;
-                continue 'scan;
-            }
-            Here::Cut => {
-                i += 3;
-                continue 'scan;
-            }
-            Here::Whole(size) => {
-                let packet = parts::part(region, i, size);
-                if is_wanted(packet, did, sdid) {
-                    return packet;
-                }
-                i += size;
-                continue 'scan;
-            }
+    let mut next = 0;
+    while let Some(place) = scan::next_packet(region, next) {
+        let packet = parts::part(region, place.start, place.len());
+        if is_wanted(packet, did, sdid) {
+            return Some(packet);
         }
+        next = place.end;
     }
-    &region[0..0]
+    None
 }
 
-// The first wanted packet of a channel, or an empty part.
-fn find_channel<'a>(plan: Plan, did: u8, sdid: u8, words: &'a [u16]) -> &'a [u16]
-    ensures { result.now ≡ found did sdid (ancillary plan words.now) }
+// The first wanted packet of a channel.
+fn find_channel<'a>(plan: Plan, did: u8, sdid: u8, words: &'a [u16]) -> Option<&'a [u16]>
+    ensures { IsFound result (found did sdid (ancillary plan words.now)) }
 {
-    let part = find_in(
-        parts::part(words, plan.places.blank, plan.places.blanks),
-        did,
-        sdid,
-    );
-    if 0 < part.len() {
-        return part;
-    }
-    find_in(region::active_region(plan, words), did, sdid)
+    let blanking = parts::part(words, plan.places.blank, plan.places.blanks);
+    find_in(blanking, did, sdid).or_else(|| find_in(region::active_region(plan, words), did, sdid))
 }
 
 // The first wanted packet of a row, Y before C, as a part of whichever channel's words holds it; an empty part of Y if there is
@@ -84,26 +76,27 @@ fn find_channel<'a>(plan: Plan, did: u8, sdid: u8, words: &'a [u16]) -> &'a [u16
 pub fn find<'a>(raster: u32, line: u32, did: u8, sdid: u8, y: &'a [u16], c: &'a [u16]) -> &'a [u16]
     ensures { result.now ≡ find_of raster line did sdid y.now c.now }
 {
-    if plan::row_refusal(raster, line, y, c) != 0 {
-        return &y[0..0];
-    }
-    let plan = plan::plan_of(raster, line);
-    let in_y = find_channel(plan, did, sdid, y);
-    if 0 < in_y.len() {
-        return in_y;
-    }
-    let in_c = find_channel(plan, did, sdid, c);
-    if 0 < in_c.len() {
-        return in_c;
-    }
-    &y[0..0]
+    let none = &y[..0];
+    let Ok(plan) = row_plan(raster, line, y, c) else {
+        return none;
+    };
+    find_channel(plan, did, sdid, y)
+        .or_else(|| find_channel(plan, did, sdid, c))
+        .unwrap_or(none)
 }
 
 // The refusal of `find` on the same arguments; 4, 5, 2, 3.
-pub fn find_refusal(raster: u32, line: u32, did: u8, sdid: u8, y: &[u16], c: &[u16]) -> u8
-    ensures { result ≡ row_refusal raster line y.now c.now }
+pub fn find_refusal(
+    raster: u32,
+    line: u32,
+    did: u8,
+    sdid: u8,
+    y: &[u16],
+    c: &[u16],
+) -> Result<(), Refusal>
+    ensures { result ≡ result_of (row_refusal raster line y.now c.now) tt }
 {
-    plan::row_refusal(raster, line, y, c)
+    row_plan(raster, line, y, c).map(|_| ())
 }
 
 // Copies the whole packets of a region to a place on, and answers the place after them.
@@ -113,51 +106,30 @@ fn copy_region(region: &[u16], out: &mut [u16], from: usize) -> usize
     ensures buffer { out.new ≡ laid from (packets_of (scan region.now)) out.old }
 {
     let mut at = from;
-    let mut i = 0;
-    'scan: while i < region.len() {
-        let here = scan::here_at(region, i);
-        match here {
-            Here::Nothing => {
-                i += 1;
-                continue 'scan;
-            }
-            Here::Cut => {
-                i += 3;
-                continue 'scan;
-            }
-            Here::Whole(size) => {
-                parts::lay(out, at, parts::part(region, i, size));
-                at += size;
-                i += size;
-                continue 'scan;
-            }
-        }
+    let mut next = 0;
+    while let Some(place) = scan::next_packet(region, next) {
+        let packet = parts::part(region, place.start, place.len());
+        parts::lay(out, at, packet);
+        at += packet.len();
+        next = place.end;
     }
     at
 }
 
-// Copies the whole packets of a channel's words, end to end; 1.
-fn extract_channel(plan: Plan, words: &[u16], out: &mut [u16]) -> Extracted
-    ensures answer { result ≡ extracted_for (room_refusal (packets_of (ancillary plan words.now)) (length out.old)) (packets_of (ancillary plan words.now)) }
+// Copies the whole packets of a channel's words, end to end, and answers how many words they have; 1.
+fn extract_channel(plan: Plan, words: &[u16], out: &mut [u16]) -> Result<usize, Refusal>
+    ensures answer { result ≡ result_of (room_refusal (packets_of (ancillary plan words.now)) (length out.old)) (length (packets_of (ancillary plan words.now))) }
     ensures buffer { out.new ≡ laid_unless (room_refusal (packets_of (ancillary plan words.now)) (length out.old)) (packets_of (ancillary plan words.now)) out.old }
 {
-    let scanned = region::scan_packets(plan, words);
-    if out.len() < scanned.words {
-        return Extracted {
-            refusal: 1,
-            words: 0,
-        };
+    if out.len() < region::scan_packets(plan, words).words {
+        return Err(Refusal::NoRoom);
     }
     let blanking = parts::part(words, plan.places.blank, plan.places.blanks);
     let at = copy_region(blanking, out, 0);
-    copy_region(region::active_region(plan, words), out, at);
-    Extracted {
-        refusal: 0,
-        words: scanned.words,
-    }
+    Ok(copy_region(region::active_region(plan, words), out, at))
 }
 
-// Copies the whole packets of a channel, end to end; 4, 5, 2, 3, 1.
+// Copies the whole packets of a channel, end to end, and answers how many words they have; 4, 5, 2, 3, 1.
 pub fn extract(
     raster: u32,
     line: u32,
@@ -165,17 +137,10 @@ pub fn extract(
     y: &[u16],
     c: &[u16],
     out: &mut [u16],
-) -> Extracted
+) -> Result<usize, Refusal>
     ensures answer { result ≡ extracted raster line channel y.now c.now (length out.old) }
     ensures buffer { out.new ≡ laid_unless (extract_refusal raster line channel y.now c.now (length out.old)) (packets_in raster line (channel_of channel y.now c.now)) out.old }
 {
-    let refusal = plan::row_refusal(raster, line, y, c);
-    if refusal != 0 {
-        return Extracted { refusal, words: 0 };
-    }
-    let plan = plan::plan_of(raster, line);
-    match channel {
-        Channel::Y => extract_channel(plan, y, out),
-        Channel::C => extract_channel(plan, c, out),
-    }
+    let plan = row_plan(raster, line, y, c)?;
+    extract_channel(plan, channel.words(y, c), out)
 }

@@ -4,9 +4,11 @@ use mathlib.Core.List.{List, [], ◌∷◌, ◌++◌, append-nil}
 use Prim.Native.Nat.{ℕ, zero, suc, ◌+◌, ◌-◌, ◌^◌, ◌≤◌, ◌<◌}
 use native.Mathlib.Omega.{arith}
 use native.Mathlib.Decide.{dec_lt}
-use lib.ListN.{length, get_or, take, drop, set, replicate, length-drop, length-replicate, drop_of_length-le}
-use lib.Seq.{drop-cons, take-suc, drop-append-le, get_or-drop, get_or-take, get_or-set_same, get_or-set_other, length-take-le, ext_get_or}
+use lib.ListN.{length, get_or, take, drop, set, replicate, length-append, length-drop, length-replicate, drop_of_length-le}
+use lib.Seq.{drop-cons, take-suc, drop-append-le, get_or-drop, get_or-take, get_or-set_same, get_or-set_other, length-take-le}
 use lib.Bits.{bit_xor, xor_zero_r, xor_comm}
+use Rattle.std.specs.List.{copy_within}
+use Rattle.std.proofs.lemmas.List.{get_or_append_left, take_at, drop_at}
 use Rattle.bits.specs.Bits.{odd, bits}
 use Rattle.bits.proofs.Xor.{xor_assoc}
 use Rattle.bits.proofs.Lists.{cons_equal}
@@ -14,27 +16,16 @@ use Rattle.crc.specs.Crc.{crc_bit, crc_bits, crc_word, crc_words}
 use Rattle.crc.proofs.Range.{crc_word_range}
 use Rattle.parts.specs.Parts.{laid}
 use Rattle.parts.proofs.Laid.{laid_split}
+use Rattle.folding.specs.Folding.{adds, loaded, next, Folded}
 use Rattle.folding.proofs.Later.{crc_word_linear, later, crc_words-differ, later_additive, later_add, cancel}
 
 -- ---- words xor-ed in, place by place, as far as they go
-
-unfoldable pub adds : List ℕ → List ℕ → List ℕ
-adds ws [] = ws
-adds [] (v ∷ vs) = []
-adds (w ∷ ws) (v ∷ vs) = bit_xor w v ∷ adds ws vs
 
 pub length_adds : (ws vs : List ℕ) → length (adds ws vs) ≡ length ws
 unfolding adds
 length_adds ws [] = refl
 length_adds [] (v ∷ vs) = refl
 length_adds (w ∷ ws) (v ∷ vs) = ap suc (length_adds ws vs)
-
-pub get_d_adds : (ws vs : List ℕ) (j : ℕ) → j < length ws → get_or (adds ws vs) j 0 ≡ bit_xor (get_or ws j 0) (get_or vs j 0)
-unfolding adds
-get_d_adds ws [] j h = sym (xor_zero_r (get_or ws j 0))
-get_d_adds [] (v ∷ vs) j h = absurd (omega arith)
-get_d_adds (w ∷ ws) (v ∷ vs) zero h = refl
-get_d_adds (w ∷ ws) (v ∷ vs) (suc j) h = get_d_adds ws vs j (omega arith)
 
 adds_swap : (ws us vs : List ℕ) → adds (adds ws us) vs ≡ adds (adds ws vs) us
 unfolding adds
@@ -49,6 +40,15 @@ unfolding adds
 adds_zeros zero ws = refl
 adds_zeros (suc n) [] = refl
 adds_zeros (suc n) (w ∷ ws) = cons_equal (xor_zero_r w) (adds_zeros n ws)
+
+-- a turn of the loop that xors them in
+pub adds_step : (tail ws : List ℕ) (i : ℕ) → i < length tail → i < length ws
+    → set (adds tail (take i ws)) i (bit_xor (get_or (adds tail (take i ws)) i 0) (get_or ws i 0)) ≡ adds tail (take (suc i) ws)
+unfolding adds
+adds_step [] ws i h l = absurd (omega arith)
+adds_step (t ∷ tail) [] i h l = absurd (omega arith)
+adds_step (t ∷ tail) (w ∷ ws) zero h l = refl
+adds_step (t ∷ tail) (w ∷ ws) (suc i) h l = ap (λ v. bit_xor t w ∷ v) (adds_step tail ws i (omega arith) (omega arith))
 
 -- ---- one word more
 
@@ -84,9 +84,6 @@ end_of_first x k ws a b c e =
     ∙ ap (λ (l : List ℕ). bit_xor (crc_words 0 (adds l c)) (later k (crc_word 0 x))) (adds_swap ws b a)
 
 -- ---- words with those that were taken out before them, the last 304, xor-ed in
-
-unfoldable pub loaded : List ℕ → List ℕ → List ℕ
-loaded p ws = three ws p (drop 128 p) (drop 152 p)
 
 pub length_loaded : (p ws : List ℕ) → length (loaded p ws) ≡ length ws
 unfolding loaded
@@ -138,41 +135,35 @@ loaded_step o w k p ws e l =
 
 -- ---- a list in which each word after the first 304 is the next that is taken out
 
-abbrev pub next : List ℕ → ℕ → List ℕ → ℕ → ℕ
-next words at s j = bit_xor (bit_xor (bit_xor (get_or words (at + j) 0) (get_or s j 0)) (get_or s (j + 128) 0)) (get_or s (j + 152) 0)
-
-abbrev pub Folded : List ℕ → ℕ → List ℕ → ℕ → Type 0
-Folded words at s n = (j : ℕ) → j < n → get_or s (j + 304) 0 ≡ next words at s j
-
 -- a store
-pub folded_step : (words s : List ℕ) (at i : ℕ) → i + 304 < length s → Folded words at s i → Folded words at (set s (i + 304) (next words at s i)) (i + 1)
-folded_step words s at i h folded j l = go (dec_lt j i)
+pub folded_step : (words s : List ℕ) (i : ℕ) → i + 304 < length s → Folded words s i → Folded words (set s (i + 304) (next words s i)) (i + 1)
+folded_step words s i h folded j l = go (dec_lt j i)
   where
     x : ℕ
-    x = next words at s i
+    x = next words s i
 
     other : (k : ℕ) → k < i + 304 → get_or (set s (i + 304) x) k 0 ≡ get_or s k 0
     other k m = get_or-set_other s (i + 304) k x 0 (λ e. omega arith)
 
-    kept : next words at (set s (i + 304) x) j ≡ next words at s j
+    kept : next words (set s (i + 304) x) j ≡ next words s j
     kept = rw (other j (omega arith), other (j + 128) (omega arith), other (j + 152) (omega arith))
 
-    go : Dec (j < i) → get_or (set s (i + 304) x) (j + 304) 0 ≡ next words at (set s (i + 304) x) j
+    go : Dec (j < i) → get_or (set s (i + 304) x) (j + 304) 0 ≡ next words (set s (i + 304) x) j
     go (yes m) = other (j + 304) (omega arith) ∙ folded j m ∙ sym kept
-    go (no m) = let e : j ≡ i = omega arith in ap (λ (k : ℕ). get_or (set s (i + 304) x) (k + 304) 0) e ∙ get_or-set_same s (i + 304) x 0 h ∙ ap (next words at s) (sym e) ∙ sym kept
+    go (no m) = let e : j ≡ i = omega arith in ap (λ (k : ℕ). get_or (set s (i + 304) x) (k + 304) 0) e ∙ get_or-set_same s (i + 304) x 0 h ∙ ap (next words s) (sym e) ∙ sym kept
 
 -- after n of them the last 304 stand from place n on
-turn : (words s : List ℕ) (at i : ℕ) → i + 304 < length s → at + i + 305 ≤ length words → get_or s (i + 304) 0 ≡ next words at s i
-    → crc_words 0 (loaded (take 304 (drop i s)) (drop (at + i) words)) ≡ crc_words 0 (loaded (take 304 (drop (suc i) s)) (drop (suc (at + i)) words))
-turn words s at i h l e =
-    let w = get_or words (at + i) 0 in
+turn : (words s : List ℕ) (i : ℕ) → i + 304 < length s → i + 305 ≤ length words → get_or s (i + 304) 0 ≡ next words s i
+    → crc_words 0 (loaded (take 304 (drop i s)) (drop i words)) ≡ crc_words 0 (loaded (take 304 (drop (suc i) s)) (drop (suc i) words))
+turn words s i h l e =
+    let w = get_or words i 0 in
     let o = get_or s i 0 in
     let t = drop (suc i) s in
     let p = take 303 t in
-    let ws = drop (suc (at + i)) words in
+    let ws = drop (suc i) words in
     let lt : 304 ≤ length t = omega (arith, length-drop (suc i) s) in
     let lp : length p ≡ 303 = length-take-le 303 t (omega arith) in
-    let lw : length ws ≡ 304 + (length ws - 304) = omega (arith, length-drop (suc (at + i)) words) in
+    let lw : length ws ≡ 304 + (length ws - 304) = omega (arith, length-drop (suc i) words) in
     let at304 : suc i + 303 ≡ i + 304 = omega arith in
     let at128 : suc i + 127 ≡ i + 128 = omega arith in
     let at152 : suc i + 151 ≡ i + 152 = omega arith in
@@ -180,40 +171,34 @@ turn words s at i h l e =
     let second : get_or p 151 0 ≡ get_or s (i + 152) 0 = get_or-take 303 t 151 0 (omega arith) ∙ get_or-drop (suc i) s 151 0 ∙ ap (λ (k : ℕ). get_or s k 0) at152 in
     let last : get_or t 303 0 ≡ bit_xor (bit_xor (bit_xor w o) (get_or p 127 0)) (get_or p 151 0) =
     get_or-drop (suc i) s 303 0 ∙ ap (λ (k : ℕ). get_or s k 0) at304 ∙ e ∙ sym (ap₂ (λ (m n : ℕ). bit_xor (bit_xor (bit_xor w o) m) n) first second) in
-    ap₂ (λ (l v : List ℕ). crc_words 0 (loaded (take 304 l) v)) (drop-cons s i 0 (omega arith)) (drop-cons words (at + i) 0 (omega arith))
+    ap₂ (λ (l v : List ℕ). crc_words 0 (loaded (take 304 l) v)) (drop-cons s i 0 (omega arith)) (drop-cons words i 0 (omega arith))
     ∙ loaded_step o w (length ws - 304) p ws lp lw
     ∙ ap (λ (l : List ℕ). crc_words 0 (loaded l ws)) (ap (λ (n : ℕ). p ++ (n ∷ [])) (sym last) ∙ sym (take-suc t 303 0 (omega arith)))
 
-pub folded_crc : (words s : List ℕ) (at n : ℕ) → n + 304 ≤ length s → at + n + 304 ≤ length words → Folded words at s n
-    → crc_words 0 (loaded (take 304 s) (drop at words)) ≡ crc_words 0 (loaded (take 304 (drop n s)) (drop (at + n) words))
-folded_crc words s at zero h l folded = let e : at ≡ at + 0 = omega arith in ap (λ (k : ℕ). crc_words 0 (loaded (take 304 s) (drop k words))) e
-folded_crc words s at (suc n) h l folded =
-    let e : suc (at + n) ≡ at + suc n = omega arith in
-    folded_crc words s at n (omega arith) (omega arith) (λ j m. folded j (omega arith))
-    ∙ turn words s at n (omega arith) (omega arith) (folded n (omega arith))
-    ∙ ap (λ (k : ℕ). crc_words 0 (loaded (take 304 (drop (suc n) s)) (drop k words))) e
+pub folded_crc : (words s : List ℕ) (n : ℕ) → n + 304 ≤ length s → n + 304 ≤ length words → Folded words s n
+    → crc_words 0 (loaded (take 304 s) words) ≡ crc_words 0 (loaded (take 304 (drop n s)) (drop n words))
+folded_crc words s zero h l folded = refl
+folded_crc words s (suc n) h l folded =
+    folded_crc words s n (omega arith) (omega arith) (λ j m. folded j (omega arith)) ∙ turn words s n (omega arith) (omega arith) (folded n (omega arith))
+
+-- the same of a block and the words after it, of which s has seen the block alone
+pub block_crc : (block ws s : List ℕ) → length block + 304 ≤ length s → 304 ≤ length ws → Folded block s (length block)
+    → crc_words 0 (loaded (take 304 s) (block ++ ws)) ≡ crc_words 0 (loaded (take 304 (drop (length block) s)) ws)
+block_crc block ws s h l folded =
+    folded_crc (block ++ ws) s (length block) h (omega (arith, length-append block ws)) (λ j m. folded j m ∙ rw get_or_append_left)
+    ∙ ap (λ v. crc_words 0 (loaded (take 304 (drop (length block) s)) v)) (drop_at block ws (length block) refl)
+
+-- the last 304, moved down
+pub moved_down : (s : List ℕ) (n : ℕ) → n + 304 ≤ length s → take 304 (copy_within s n (n + 304) 0) ≡ take 304 (drop n s)
+moved_down s n h =
+    let e : n + 304 - n ≡ 304 = omega arith in
+    rw e (take_at (take 304 (drop n s)) (drop 304 s) 304 (length-take-le 304 (drop n s) (omega (arith, length-drop n s))))
 
 -- ---- where nothing was taken out yet, and the tail
 
 pub loaded_zeros : (ws : List ℕ) → loaded (replicate 304 0) ws ≡ ws
 unfolding loaded
 loaded_zeros ws = adds_zeros 152 (adds (adds ws (replicate 304 0)) (replicate 176 0)) ∙ adds_zeros 176 (adds ws (replicate 304 0)) ∙ adds_zeros 304 ws
-
-pub get_d_loaded : (p ws : List ℕ) (j : ℕ) → j < length ws
-    → get_or (loaded p ws) j 0 ≡ bit_xor (bit_xor (bit_xor (get_or ws j 0) (get_or p j 0)) (get_or p (128 + j) 0)) (get_or p (152 + j) 0)
-unfolding loaded
-get_d_loaded p ws j h =
-    let a = adds ws p in
-    let la : j < length a = omega (arith, length_adds ws p) in
-    get_d_adds (adds a (drop 128 p)) (drop 152 p) j (omega (arith, length_adds a (drop 128 p)))
-    ∙ ap₂ bit_xor (get_d_adds a (drop 128 p) j la ∙ ap₂ bit_xor (get_d_adds ws p j h) (get_or-drop 128 p j 0)) (get_or-drop 152 p j 0)
-
--- a list that has their words is they
-pub is_loaded : (p ws tail : List ℕ) → length tail ≡ length ws
-    → ((j : ℕ) → j < length ws → get_or tail j 0 ≡ bit_xor (bit_xor (bit_xor (get_or ws j 0) (get_or p j 0)) (get_or p (128 + j) 0)) (get_or p (152 + j) 0))
-    → tail ≡ loaded p ws
-is_loaded p ws tail e each =
-    ext_get_or 0 tail (loaded p ws) (e ∙ sym (length_loaded p ws)) (λ j h. each j (omega arith) ∙ sym (get_d_loaded p ws j (omega arith)))
 
 -- ---- words in front of which zeros stand
 

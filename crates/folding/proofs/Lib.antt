@@ -1,3 +1,2 @@
 pub mod Later
 pub mod Folding
-pub mod Stores

@@ -9,9 +9,9 @@ use borrow.Author.Tests.{ltb-true}
 use Rattle.bits.specs.Choice.{if}
 use Rattle.raster.specs.Table.{raster_ok, entry_of, rows_of}
 use Rattle.raster.specs.Lines.{line_refusal}
-use Rattle.raster.proofs.Table.{looked_up-found, looked_up_range}
+use Rattle.raster.proofs.Table.{raster_given-found, looked_up_range}
 use Rattle.raster.proofs.Lines.{between_yes, line_refusal_ok, ok_line_refusal}
-use Rattle.row.specs.declared.Carry.{Carry}
+use Rattle.row.specs.Before.{Carry}
 use Rattle.row.specs.Row.{judged}
 use Rattle.judging.specs.Happening.{line_of, line_after, row_judged, completed}
 
@@ -36,5 +36,5 @@ pub line_after_ok : (code line : ℕ) → line_refusal code line ≡ 0 → line_
 line_after_ok code line ok =
     let raster = (line_refusal_ok code line ok).0 in
     let range = line_after_range code line raster in
-    let rows : rows_of code ≡ (entry_of code).rows = ap (λ l. l.raster.rows) (looked_up-found code raster) in
+    let rows : rows_of code ≡ (entry_of code).rows = ap (λ r. r.rows) (raster_given-found code raster) in
     ok_line_refusal code (line_after code line) raster (between_yes 1 (entry_of code).rows (line_after code line) range.0 (omega arith))

@@ -1,13 +1,11 @@
 -- What happens to rows, and what is expected of the next one.
-use Rattle.std.specs.Prelude.{List, [], ◌∷◌, ℕ, zero, suc, ◌+◌, ltb, get_or}
+use Rattle.std.specs.Prelude.{List, [], ◌∷◌, None, ℕ, zero, suc, ◌+◌, ltb, get_or}
 use Rattle.bits.specs.Choice.{if}
 use Rattle.raster.specs.Layout.{line_at}
-use Rattle.raster.specs.Table.{looked_up, rows_of}
-use Rattle.timing.specs.Line.{line_read}
-use Rattle.row.specs.declared.Carry.{Carry}
-use Rattle.row.specs.declared.Carry.TheVariants.{Nothing}
+use Rattle.raster.specs.Table.{raster_given, rows_of}
+use Rattle.timing.specs.Line.{line_read, line_told}
+use Rattle.row.specs.Before.{Carry, carried}
 use Rattle.row.specs.declared.Judged.{Judged}
-use Rattle.row.specs.Before.{carried}
 use Rattle.row.specs.Row.{judged}
 use Rattle.recogniser.specs.declared.Event.{Event}
 use Rattle.recogniser.specs.declared.Event.TheVariants.{Outside, Within, Pair, Opens, Whole, Early, Late, Astray}
@@ -18,12 +16,12 @@ use Rattle.judging.specs.declared.Happened.{Happened}
 
 -- no line known and no row before: at the start, and after what "drop[s] the row, carry and expected line"
 abbrev pub no_track : Track
-no_track = record { line = 0; carry = Nothing }
+no_track = record { line = 0; carry = None }
 
 -- "The expected line is taken from the Y line words of the first complete row while none is known, if these are exact and in 1..N"; else 0
 abbrev pub line_of : ℕ → ℕ → List ℕ → ℕ
 line_of code zero y =
-    (line_read code (get_or y (line_at (looked_up code).raster.layout) 0) (get_or y (line_at (looked_up code).raster.layout + 1) 0)).line
+    line_told (line_read code (get_or y (line_at (raster_given code).layout) 0) (get_or y (line_at (raster_given code).layout + 1) 0))
 line_of code (suc n) y = suc n
 
 -- "then goes up by one and from N to 1"

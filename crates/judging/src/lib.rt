@@ -2,7 +2,7 @@
 #![tactic(auto)]
 
 ghost use Rattle.std.specs.Prelude.{◌≡◌, get_or};
-ghost use Rattle.judging.specs.Happening.{completed, dropped, happened, line_after, line_of, quietly};
+ghost use Rattle.judging.specs.Happening.{completed, dropped, happened, line_after, line_of};
 
 use recogniser::Event;
 use row::Carry;
@@ -12,6 +12,14 @@ use row::Carry;
 pub struct Track {
     pub line: u32,
     pub carry: Carry,
+}
+
+impl Track {
+    // Nothing is known of the next row, and there was none before it.
+    pub const NONE: Track = Track {
+        line: 0,
+        carry: None,
+    };
 }
 
 // What happens at a bit: nothing; a row judged (its line, its flags, whether its CRC could be judged); a row without a line number;
@@ -36,21 +44,17 @@ pub struct Happened {
 fn drop_row(happening: Happening) -> Happened
     ensures { result ≡ dropped happening }
 {
-    let track = Track {
-        line: 0,
-        carry: Carry::Nothing,
-    };
-    Happened { happening, track }
+    Happened {
+        happening,
+        track: Track::NONE,
+    }
 }
 
 // The word at a place, 0 where there is none.
 fn word_at(words: &[u16], at: usize) -> u16
     ensures { result ≡ get_or words.now at 0 }
 {
-    if at < words.len() {
-        return words[at];
-    }
-    0
+    words.get(at).copied().unwrap_or(0)
 }
 
 // The line of a whole row: the expected one, or where none is known the one that its Y words say; 0 where these are not exact.
@@ -60,18 +64,20 @@ fn line_of(raster: u32, expected: u32, y: &[u16]) -> u32
     if expected != 0 {
         return expected;
     }
-    timing::read_line(raster, word_at(y, 4), word_at(y, 5)).line
+    match timing::read_line(raster, word_at(y, 4), word_at(y, 5)) {
+        Ok(Some(line)) => line,
+        _ => 0,
+    }
 }
 
 // The line after a line.
 fn line_after(raster: u32, line: u32) -> u32
     ensures { result ≡ line_after raster line }
 {
-    let rows = raster::raster_of(raster).raster.rows;
-    if line < rows {
-        return line + 1;
+    match raster::raster_of(raster) {
+        Ok(found) if line < found.rows => line + 1,
+        _ => 1,
     }
-    1
 }
 
 // A whole row of this line, or of none.
@@ -82,43 +88,28 @@ fn complete(raster: u32, line: u32, carry: Carry, y: &[u16], c: &[u16]) -> Happe
         return drop_row(Happening::Unnumbered);
     }
     let judged = row::judge(raster, line, carry, y, c);
-    let known = row::carried(carry).known;
-    let happening = Happening::RowJudged(line, judged.flags, known);
-    let next = line_after(raster, line);
-    let left = judged.carry;
-    let track = Track {
-        line: next,
-        carry: left,
-    };
-    Happened { happening, track }
+    Happened {
+        happening: Happening::RowJudged(line, judged.flags, carry.is_some()),
+        track: Track {
+            line: line_after(raster, line),
+            carry: judged.carry,
+        },
+    }
 }
 
 // What an event means for a row of these T words in each channel.
+#[tactic(auto, unfolding(crate::specs::Happening::happened))]
 pub fn happen(event: Event, raster: u32, track: Track, y: &[u16], c: &[u16]) -> Happened
     ensures { result ≡ happened event raster track y.now c.now }
 {
     match event {
-        Event::Outside => quiet(track),
-        Event::Within => quiet(track),
-        Event::Pair => quiet(track),
-        Event::Opens => quiet(track),
-        Event::Whole => {
-            let line = line_of(raster, track.line, y);
-            let carry = track.carry;
-            complete(raster, line, carry, y, c)
-        }
+        Event::Outside | Event::Within | Event::Pair | Event::Opens => Happened {
+            happening: Happening::Quiet,
+            track,
+        },
+        Event::Whole => complete(raster, line_of(raster, track.line, y), track.carry, y, c),
         Event::Early => drop_row(Happening::DroppedEarly),
         Event::Late => drop_row(Happening::DroppedLate),
         Event::Astray => drop_row(Happening::DroppedAstray),
-    }
-}
-
-// No happening: all is expected as before.
-fn quiet(track: Track) -> Happened
-    ensures { result ≡ quietly track }
-{
-    Happened {
-        happening: Happening::Quiet,
-        track,
     }
 }

@@ -1,34 +1,23 @@
--- Laws of decimal: one digit, all digits but the last, and how many there are.
-use mathlib.Core.Path.{◌≡◌, sym, ap, ◌∙◌}
+-- Laws of decimal: it is what the kit's library prints of a number, and how many digits there are.
+use mathlib.Core.Path.{◌≡◌, sym}
 use mathlib.Core.Bool.{Bool, true, false}
-use mathlib.Core.List.{List, [], ◌∷◌, ◌++◌}
+use mathlib.Core.List.{◌∷◌, [], ◌++◌}
 use Prim.Native.Nat.{ℕ, zero, suc, ◌/◌, ◌%◌, ◌^◌, ◌≤◌, ◌<◌}
 use native.Mathlib.Omega.{arith}
-use native.Mathlib.Nat.{pow-suc}
 use lib.Dec.{ltb}
 use lib.ListN.{length, length-append}
 use borrow.Author.Tests.{lt-ltb, le-ltb}
+use Rattle.std.specs.Fmt as fmt
+use Rattle.std.proofs.lemmas.Fmt.{AppendsLastDigit, decimal_from_appends, length-decimal-le}
 use Rattle.bits.specs.Choice.{if}
 use Rattle.label.specs.Label.{decimal, decimal_in, digit}
 
--- room for one digit more changes nothing where the number has no more digits
-decimal_in_more : (k n : ℕ) → n < 10 ^ suc k → decimal_in (suc (suc k)) n ≡ decimal_in (suc k) n
+digit_by_digit : AppendsLastDigit decimal_in
 unfolding decimal_in
-decimal_in_more zero n h = rw (lt-ltb n 10 h)
-decimal_in_more (suc k) n h =
-    let shorter : n / 10 < 10 ^ suc k = omega (arith, pow-suc 10 (suc k)) in
-    ap (λ (ds : List ℕ). if (ltb n 10) (digit n ∷ []) (ds ++ (digit (n % 10) ∷ []))) (decimal_in_more k (n / 10) shorter)
+digit_by_digit = record { one = λ k n h. rw (lt-ltb n 10 h); more = λ k n h. rw (le-ltb n 10 h) }
 
-pub decimal_one : (n : ℕ) → n < 10 → decimal n ≡ digit n ∷ []
-unfolding decimal_in
-decimal_one n h = rw (lt-ltb n 10 h)
-
-pub decimal_step : (n : ℕ) → 10 ≤ n → n < 2 ^ 32 → decimal n ≡ decimal (n / 10) ++ (digit (n % 10) ∷ [])
-unfolding decimal_in
-decimal_step n h k = all_but_last ∙ ap (λ (ds : List ℕ). ds ++ (digit (n % 10) ∷ [])) (sym (decimal_in_more 8 (n / 10) (omega arith)))
-  where
-    all_but_last : decimal n ≡ decimal_in 9 (n / 10) ++ (digit (n % 10) ∷ [])
-    all_but_last = rw (le-ltb n 10 h)
+pub decimal_printed : (n : ℕ) → n < 2 ^ 32 → fmt.decimal n ≡ decimal n
+decimal_printed n h = sym (decimal_from_appends decimal_in digit_by_digit 10 n (omega arith) (length-decimal-le 10 n (omega arith) (omega arith) (omega arith)))
 
 pub length_of_decimal_in : (k n : ℕ) → length (decimal_in k n) ≤ k
 unfolding decimal_in

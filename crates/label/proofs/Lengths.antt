@@ -7,10 +7,9 @@ use Rattle.tally.specs.declared.Verdict.{Verdict}
 use Rattle.tally.specs.declared.Verdict.TheVariants.{Refused, NoSignal, Fail, Short, Pass}
 use Rattle.tally.specs.Tally.{label}
 use Rattle.desk.specs.declared.Job.{Job}
-use Rattle.desk.specs.declared.Kind.{Kind}
-use Rattle.desk.specs.declared.Kind.TheVariants.{Nothing, Done, BadFile}
 use Rattle.desk.specs.declared.Outcome.{Outcome}
-use Rattle.label.specs.Label.{bad_file_label, decimal, job_label, label_by, line_end, label_of, room, tag_text}
+use Rattle.desk.specs.declared.Outcome.TheVariants.{Nothing, Done, BadFile}
+use Rattle.label.specs.Label.{bad_file_label, decimal, job_label, line_end, label_of, room, tag_text}
 use Rattle.label.proofs.Digits.{length_of_decimal_in}
 
 length_of_label : (v : Verdict) → length (label v) ≤ 9
@@ -20,7 +19,7 @@ length_of_label Fail = omega arith
 length_of_label Short = omega arith
 length_of_label Pass = omega arith
 
-length_of_job_label : (j : Job) → length (tag_text j.tag) ≤ 32 → length (job_label j) ≤ room
+pub length_of_job_label : (j : Job) → length (tag_text j.tag) ≤ 32 → length (job_label j) ≤ room
 unfolding job_label
 length_of_job_label j h =
     simp length-append
@@ -32,15 +31,12 @@ length_of_job_label j h =
       length_of_label j.verdict,
     ))
 
-length_of_bad_file_label : (n : ℕ) → length (bad_file_label n) ≤ room
+pub length_of_bad_file_label : (n : ℕ) → length (bad_file_label n) ≤ room
 unfolding bad_file_label
 length_of_bad_file_label n = omega (arith, length-append (decimal n) line_end, length_of_decimal_in 10 n)
 
 -- only a job's line has a tag
-pub length_of_label_of : (o : Outcome) → (o.kind ≡ Done → length (tag_text o.job.tag) ≤ 32) → length (label_of o) ≤ room
-length_of_label_of o = go o.kind
-  where
-    go : (k : Kind) → (k ≡ Done → length (tag_text o.job.tag) ≤ 32) → length (label_by k o.job) ≤ room
-    go Nothing h = omega arith
-    go Done h = length_of_job_label o.job (h refl)
-    go (BadFile n) h = length_of_bad_file_label n
+pub length_of_label_of : (o : Outcome) → ((j : Job) → o ≡ Done j → length (tag_text j.tag) ≤ 32) → length (label_of o) ≤ room
+length_of_label_of Nothing h = omega arith
+length_of_label_of (Done j) h = length_of_job_label j (h j refl)
+length_of_label_of (BadFile n) h = length_of_bad_file_label n

@@ -1,4 +1,3 @@
 pub mod Digits
-pub mod Writing
 pub mod Boxing
 pub mod Lengths

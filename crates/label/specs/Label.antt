@@ -4,9 +4,8 @@ use Rattle.bits.specs.Choice.{if}
 use Rattle.tally.specs.Tally.{label}
 use Rattle.reader.specs.declared.Tag.{Tag}
 use Rattle.desk.specs.declared.Job.{Job}
-use Rattle.desk.specs.declared.Kind.{Kind}
-use Rattle.desk.specs.declared.Kind.TheVariants.{Nothing, Done, BadFile}
 use Rattle.desk.specs.declared.Outcome.{Outcome}
+use Rattle.desk.specs.declared.Outcome.TheVariants.{Nothing, Done, BadFile}
 use Rattle.label.specs.declared.Label.{Label}
 
 abbrev pub digit : ℕ → ℕ
@@ -60,13 +59,10 @@ unfoldable pub bad_file_label : ℕ → List ℕ
 bad_file_label n = bad_file_is ++ (decimal n ++ line_end)
 
 -- nothing is printed of nothing
-abbrev pub label_by : Kind → Job → List ℕ
-label_by Nothing j = []
-label_by Done j = job_label j
-label_by (BadFile n) j = bad_file_label n
-
 abbrev pub label_of : Outcome → List ℕ
-label_of o = label_by o.kind o.job
+label_of Nothing = []
+label_of (Done j) = job_label j
+label_of (BadFile n) = bad_file_label n
 
 -- the room of a line
 abbrev pub room : ℕ

@@ -1,2 +1,2 @@
 pub mod Label
-pub mod Pushing
+pub mod Writing

@@ -1,11 +1,12 @@
 -- "At least one check code is flagged."
-use mathlib.Core.Path.{◌≡◌, refl, sym, ap, ◌∙◌}
+use mathlib.Core.Path.{◌≡◌, sym, ap, ◌∙◌}
 use mathlib.Core.Bool.{Bool, true, false}
 use mathlib.Core.List.{List, [], ◌∷◌, ◌++◌, reverse_aux}
 use mathlib.Core.Logic.{◌⊎◌, inl, inr}
 use Prim.Native.Nat.{ℕ, ◌+◌, ◌-◌, ◌*◌, ◌≤◌}
 use native.Mathlib.Omega.{arith}
 use lib.ListN.{length, take, length-append}
+use Rattle.std.proofs.lemmas.Bool.{true_from_ne_false}
 use Rattle.bits.proofs.Lists.{cons_head, cons_tail}
 use Rattle.crc.specs.Crc.{crc_start, crc_bits, crc_words, cr0, cr1}
 use Rattle.crc.proofs.Steps.{crc_words-bits}
@@ -80,10 +81,6 @@ module _ (p : Plan) (f : Fits p.places) where
 
 -- ---- the theorem
 
-unless_false : (b : Bool) → (b ≡ false → ⊥) → b ≡ true
-unless_false true h = refl
-unless_false false h = absurd (h refl)
-
 pub burst_flagged : BurstFlagged
 unfolding BurstFlagged
 burst_flagged code line h before a m n z ok whole equal short differ inside clear =
@@ -93,7 +90,7 @@ burst_flagged code line h before a m n z ok whole equal short differ inside clea
     let after = received-after h before in
     let long : 20 * covered p ≤ length (a ++ (m ++ z)) = omega (arith, f.total, f.active, f.sav) in
     let same : length (a ++ (n ++ z)) ≡ length (a ++ (m ++ z)) = simp length-append (omega arith) in
-    unless_false _
+    true_from_ne_false _
     (not_both_clear p f (received h before (a ++ (m ++ z))) (received h before (a ++ (n ++ z)))
     (ap length (after (a ++ (m ++ z))) ∙ length-unscrambled (a ++ (m ++ z)) q ∙ whole)
     (ap length (after (a ++ (n ++ z))) ∙ length-unscrambled (a ++ (n ++ z)) q ∙ same ∙ whole)

@@ -6,10 +6,13 @@ use Prim.Native.Nat.{ℕ, ◌+◌, ◌*◌, ◌≤◌}
 use native.Mathlib.Omega.{arith}
 use lib.ListN.{drop, length, length-append, length-drop, take}
 use lib.Seq.{drop_at, drop-drop, length-take-le, take-add, take_all, take-take}
+use Rattle.std.specs.Prelude.{Result, Ok}
 use Rattle.bits.specs.Bits.{word_bits}
 use Rattle.bits.specs.Words.{words10}
 use Rattle.bits.proofs.Bits.{length-word_bits}
 use Rattle.bits.proofs.Words.{tens_drop, tens_take}
+use Rattle.refusal.specs.declared.Refusal.{Refusal}
+use Rattle.refusal.proofs.Answers.{ok_same}
 use Rattle.crc.proofs.Range.{crc_words_ok}
 use Rattle.cable.specs.Bits.{past, unscrambled}
 use Rattle.cable.specs.Channels.{paired}
@@ -20,9 +23,8 @@ use Rattle.plan.specs.Plan.{plan_of}
 use Rattle.plan.proofs.Plans.{plan_of-fits, plan_of-found}
 use Rattle.plan.proofs.Rows.{RowFits}
 use Rattle.region.specs.Ancillary.{active_of}
-use Rattle.row.specs.declared.Carry.{Carry}
-use Rattle.row.specs.declared.Checked.{Checked}
-use Rattle.row.specs.Before.{carry_ok}
+use Rattle.row.specs.Before.{Carry, carry_ok}
+use Rattle.row.specs.declared.Judged.{Judged}
 use Rattle.row.specs.Row.{carry_after, flags_of}
 use Rattle.law_row.proofs.Checked.{row_checked}
 use Rattle.law_burst.specs.Stretch.{BurstFlagged, channel_words, crc_flagged, flags_in, received}
@@ -93,15 +95,15 @@ module _
             crc_words_ok (active_of (plan_of code line) (part 0 n cs)),
           )
 
-      row_seen : next_checked code line next carry ys cs
-          ≡ record {
-            refusal = 0;
+      pub next_done : {seen : Result Judged Refusal} → seen ≡ next_checked code line next carry ys cs
+          → seen
+          ≡ Ok (record {
             flags = flags_of (plan_of code next) left (part n n ys) (part n n cs);
             carry = carry_after (plan_of code next) (part n n ys) (part n n cs);
-          }
+          })
       unfolding next_checked
-      row_seen =
-          rw (row_checked code line (part 0 n ys) (part 0 n cs) first_fits carry t.registers)
+      next_done k =
+          rw (k, row_checked code line (part 0 n ys) (part 0 n cs) first_fits carry t.registers)
           (row_checked code next (part n n ys) (part n n cs) second_fits left left_ok)
 
       -- ---- the stretch
@@ -141,13 +143,11 @@ module _
           let pc = channel_parts cs (lc ∙ t.c_size) in
           rw (y, c, py.0, py.1, pc.0, pc.1)
 
-      pub next_seen : {seen : Checked} → seen ≡ next_checked code line next carry ys cs
-          → (seen.refusal ≡ 0)
-          × ((before stretch : List Bool) → word_bits cable ≡ before ++ stretch → length before ≡ 20 * (plan_of code line).places.active
-          → seen.flags ≡ flags_in (plan_of code next) (received history before stretch))
-      next_seen k =
-          let e = k ∙ row_seen in
-          (ap (λ r. r.refusal) e, λ before stretch split start. ap (λ r. r.flags) e ∙ sym (stretch_flags before stretch split start))
+      pub next_seen : {seen : Result Judged Refusal} {judged : Judged} → seen ≡ next_checked code line next carry ys cs → seen ≡ Ok judged
+          → (before stretch : List Bool) → word_bits cable ≡ before ++ stretch → length before ≡ 20 * (plan_of code line).places.active
+          → judged.flags ≡ flags_in (plan_of code next) (received history before stretch)
+      next_seen k done before stretch split start =
+          ap (λ r. r.flags) (ok_same done (next_done k)) ∙ sym (stretch_flags before stretch split start)
 
 -- ---- a run changed
 

@@ -1,5 +1,5 @@
 -- Demand 3 (README), at the row: "In a stretch of cable bits from the first active words of a line through the next line number ..".
-use Rattle.std.specs.Prelude.{◌≡◌, Bool, true, false, ◌||◌, List, ◌++◌, ℕ, ◌+◌, ◌*◌, ◌/◌, ◌≤◌, length, take, drop}
+use Rattle.std.specs.Prelude.{◌≡◌, Bool, true, false, ◌||◌, List, ◌++◌, ℕ, ◌+◌, ◌*◌, ◌/◌, ◌≤◌, length, take, drop, Some}
 use Rattle.bits.specs.Bits.{odd}
 use Rattle.crc.specs.Crc.{crc_start, crc_words}
 use Rattle.cable.specs.Bits.{unscrambled, past}
@@ -8,8 +8,7 @@ use Rattle.cable.specs.Channels.{channel_bits}
 use Rattle.raster.specs.Lines.{line_refusal}
 use Rattle.plan.specs.declared.Plan.{Plan}
 use Rattle.plan.specs.Plan.{plan_of}
-use Rattle.row.specs.declared.Carry.{Carry}
-use Rattle.row.specs.declared.Carry.TheVariants.{Registers}
+use Rattle.row.specs.Before.{Carry}
 use Rattle.row.specs.Row.{flags_of}
 
 -- the words of Y (true) or C in unscrambled bits that start with a pair
@@ -23,8 +22,11 @@ received h before cable = drop (length before) (unscrambled (past h) (before ++ 
 -- of a stretch that holds row k's active pairs and then row k+1: row k's carry, from its own received active words
 abbrev pub carry_in : Plan → List Bool → Carry
 carry_in p bs =
-    Registers (crc_words crc_start (take p.places.count (channel_words true bs)))
-    (crc_words crc_start (take p.places.count (channel_words false bs)))
+    Some
+    (record {
+      y = crc_words crc_start (take p.places.count (channel_words true bs));
+      c = crc_words crc_start (take p.places.count (channel_words false bs));
+    })
 
 -- .. and the flags of row k+1
 abbrev pub flags_in : Plan → List Bool → ℕ

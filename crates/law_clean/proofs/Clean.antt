@@ -8,13 +8,12 @@ use native.Mathlib.Omega.{arith}
 use lib.ListN.{length, length-append}
 use borrow.Author.Tests.{le-ltb}
 use Rattle.bits.proofs.Choice.{and-true, false_not_true}
-use Rattle.raster.specs.Table.{looked_up, entry_of, total_of, rows_of}
+use Rattle.raster.specs.Table.{raster_given, entry_of, total_of, rows_of}
 use Rattle.raster.specs.Lines.{line_refusal}
 use Rattle.raster.proofs.Table.{looked_up_range}
 use Rattle.raster.proofs.Lines.{line_refusal_ok}
 use Rattle.plan.specs.Plan.{plan_of}
-use Rattle.row.specs.declared.Carry.{Carry}
-use Rattle.row.specs.Before.{carry_ok}
+use Rattle.row.specs.Before.{Carry, carry_ok}
 use Rattle.recogniser.proofs.Windows.{last_of}
 use Rattle.judging.specs.Happening.{no_track, line_after}
 use Rattle.tally.specs.Tally.{ceiling, no_counts}
@@ -110,11 +109,11 @@ module _ (code line : ℕ) (carry : Carry) (k next : Content) (ks : List Content
 -- ---- "Code 0 stands for 7"
 
 plan_zero : (line : ℕ) → plan_of 0 line ≡ plan_of 7 line
-unfolding plan_of looked_up entry_of
+unfolding plan_of raster_given entry_of
 plan_zero line = refl
 
 line_zero : (line : ℕ) → line_after 0 line ≡ line_after 7 line
-unfolding looked_up entry_of
+unfolding raster_given entry_of
 line_zero line = refl
 
 pub signal_zero : (ks : List Content) (line : ℕ) (carry : Carry) → signal_bits 0 line carry ks ≡ signal_bits 7 line carry ks
@@ -129,7 +128,7 @@ lawful_zero (k ∷ ks) line = rw (plan_zero line, line_zero line, lawful_zero ks
 
 clean_zero : (line : ℕ) (carry : Carry) (ks : List Content) (ws : List ℕ) (p q : List Bool) → CleanCapture 0 line carry ks ws p q
     → CleanCapture 7 line carry ks ws p q
-unfolding looked_up entry_of
+unfolding raster_given entry_of
 clean_zero line carry ks ws p q clean =
     record {
       line_ok = clean.line_ok;

@@ -15,8 +15,7 @@ use Rattle.align.specs.Search.{slid}
 use Rattle.parts.specs.Parts.{end_to_end}
 use Rattle.plan.specs.Plan.{plan_of}
 use Rattle.stream.specs.Words.{y_blank, c_blank, trs}
-use Rattle.row.specs.declared.Carry.{Carry}
-use Rattle.row.specs.Before.{carried}
+use Rattle.row.specs.Before.{Carry, carried}
 use Rattle.recogniser.specs.Sight.{is_eav}
 use Rattle.law_clean.specs.Signal.{Content, row_bits}
 use Rattle.law_clean.proofs.Sliding.{slides, Edge, NoEdge, no_edge_after, slides_value, slides_small, sync_after, pair_bits, length_pair_bits, slides_pair, pair_last, pair_seen}

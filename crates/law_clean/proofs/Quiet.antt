@@ -15,7 +15,7 @@ use Rattle.stream.specs.Words.{trs}
 use Rattle.recogniser.specs.declared.Event.{Event}
 use Rattle.recogniser.specs.declared.Event.TheVariants.{Outside, Within, Pair, Whole}
 use Rattle.recogniser.specs.Sight.{is_sync, is_eav, c_word, y_word, ahead_after, window_after}
-use Rattle.recogniser.specs.Event.{event_of, looked, place, nowhere, place_after}
+use Rattle.recogniser.specs.Event.{event_of, looked, place, place_after}
 use Rattle.judging.specs.declared.Track.{Track}
 use Rattle.judging.specs.Happening.{happened, happenings}
 use Rattle.tally.specs.declared.Counts.{Counts}
@@ -89,13 +89,9 @@ module _ (code total : ℕ) (t : Track) (n : Counts) where
   quiet (b ∷ bs) last ahead pairs bit y c some none low far =
       let e : ahead - 1 - length bs ≡ ahead - suc (length bs) = omega arith in
       let f : bit + 1 + length bs ≡ bit + suc (length bs) = omega arith in
-      ap (steps listed code total bs) (within last ahead pairs bit b y c some (not_one far) (omega arith) (no_edge_sync _ none.0))
+      ap (steps listed code total bs) (within last ahead pairs bit b y c some (λ o. omega arith) (omega arith) (no_edge_sync _ none.0))
       ∙ quiet bs (slid last b) (ahead - 1) pairs (bit + 1) y c some none.1 (omega arith) (one_less far)
       ∙ ap₂ (λ (a k : ℕ). standing true (slides last (b ∷ bs)) a pairs k t n y c) e f
-    where
-      not_one : (ahead ≡ 0) ⊎ (suc (length bs) < ahead) → ahead ≡ 1 → ⊥
-      not_one (inl z) e = omega arith
-      not_one (inr l) e = omega arith
 
 -- ---- a whole pair of an open row
 
@@ -134,15 +130,14 @@ module _ (code total : ℕ) (t : Track) (n : Counts) (l pairs c y : ℕ) (ry rc 
         ∙ step_with code total true (slides l (first_bits c y)) (ahead - 19) pairs 19 t n ry rc (top_bit y) (pair_last l c y) Pair sync
         (slid_top l c y low_c low_y) (event far) is
         ∙ rw (seen.y_word_is, seen.c_word_is)
-        (ap (λ (a : ℕ). standing true (pair_last l c y) (if sync 20 a) (pairs + 1) 0 t n (grow total pairs y ry) (grow total pairs c rc)) (spent far))
+        (ap (λ (a : ℕ). standing true (pair_last l c y) (if sync 20 a) (pairs + 1) 0 t n (grow total pairs y ry) (grow total pairs c rc)) spent)
       where
         waits : (ahead ≡ 0) ⊎ ((ahead ≡ 20) × (is_eav y ≡ false)) → (ahead ≡ 0) ⊎ (19 < ahead)
         waits (inl z) = inl z
         waits (inr h) = inr (omega arith)
 
-        spent : (ahead ≡ 0) ⊎ ((ahead ≡ 20) × (is_eav y ≡ false)) → ahead - 19 - 1 ≡ 0
-        spent (inl z) = omega arith
-        spent (inr h) = omega arith
+        spent : ahead - 19 - 1 ≡ 0
+        spent = omega arith
 
         event : (ahead ≡ 0) ⊎ ((ahead ≡ 20) × (is_eav y ≡ false)) → event_of total (ahead - 19) (place pairs 19) (pair_last l c y) ≡ Pair
         event (inl z) = rw (ne_eqb pairs 0 (λ e. omega arith), ne_eqb (ahead - 19) 1 (λ e. omega arith), lt-leb (total + 3) pairs early)
@@ -176,11 +171,7 @@ module _ (code total : ℕ) (seen : Bool) (t : Track) (n : Counts) where
   quiet_outside (b ∷ bs) last ahead none far =
       let e : ahead - 1 - length bs ≡ ahead - suc (length bs) = omega arith in
       ap (steps listed code total bs)
-      (step_with code total seen last ahead 0 0 t n [] [] b (slid last b) Outside false refl (event far) (no_edge_sync _ none.0)
+      (step_with code total seen last ahead 0 0 t n [] [] b (slid last b) Outside false refl (rw (ne_eqb ahead 1 (λ o. omega arith))) (no_edge_sync _ none.0)
       ∙ ap (λ (s : Bool). standing s (slid last b) (ahead - 1) 0 0 t n [] []) (or-false seen))
       ∙ quiet_outside bs (slid last b) (ahead - 1) none.1 (one_less far)
       ∙ ap (outside (slides last (b ∷ bs))) e
-    where
-      event : (ahead ≡ 0) ⊎ (suc (length bs) < ahead) → event_of total ahead nowhere (slid last b) ≡ Outside
-      event (inl z) = rw (ne_eqb ahead 1 (λ e. omega arith))
-      event (inr h) = rw (ne_eqb ahead 1 (λ e. omega arith))

@@ -14,8 +14,7 @@ use Rattle.plan.specs.declared.Plan.{Plan}
 use Rattle.plan.specs.Plan.{plan_of}
 use Rattle.plan.proofs.Plans.{plan_of-fits, plan_of-total}
 use Rattle.stream.specs.Words.{y_blank, c_blank, trs}
-use Rattle.row.specs.declared.Carry.{Carry}
-use Rattle.row.specs.Before.{carried}
+use Rattle.row.specs.Before.{Carry, carried}
 use Rattle.judging.specs.declared.Track.{Track}
 use Rattle.tally.specs.declared.Counts.{Counts}
 use Rattle.stepper.specs.Step.{Run, steps}

@@ -16,8 +16,7 @@ use Rattle.raster.proofs.Lines.{line_refusal_ok}
 use Rattle.crc.proofs.Range.{crc_words_ok}
 use Rattle.plan.specs.Plan.{plan_of}
 use Rattle.stream.specs.Words.{y_blank, c_blank, trs}
-use Rattle.row.specs.declared.Carry.{Carry}
-use Rattle.row.specs.Before.{carried, carry_ok}
+use Rattle.row.specs.Before.{Carry, carried, carry_ok}
 use Rattle.row.proofs.Rows.{carried_ok}
 use Rattle.law_row.proofs.NoFlag.{OwnOrNone}
 use Rattle.judging.specs.declared.Track.{Track}

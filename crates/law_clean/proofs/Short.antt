@@ -23,8 +23,7 @@ use Rattle.parts.specs.Parts.{any}
 use Rattle.parts.proofs.Comparing.{any_cons}
 use Rattle.plan.specs.Plan.{plan_of}
 use Rattle.plan.proofs.Plans.{plan_of-fits}
-use Rattle.row.specs.declared.Carry.{Carry}
-use Rattle.row.specs.Before.{carry_ok}
+use Rattle.row.specs.Before.{Carry, carry_ok}
 use Rattle.judging.specs.Happening.{line_after}
 use Rattle.judging.proofs.Lines.{line_after_ok}
 use Rattle.law_clean.specs.Signal.{Content, lawful_row, row_bits, carry_from, signal_bits, lawful, OnlyAtStart, CleanPasses, CleanPassesShort}
@@ -64,9 +63,7 @@ unfolding word_bits paired bits
 ends_plain (c ∷ []) (y ∷ []) e some pc py = let hy = plain_head y [] py in pair [] c y (plain_head c [] pc).1 hy.0 hy.1
 ends_plain (c ∷ d ∷ cs) (y ∷ ys) e some pc py =
     ends_append (bits 10 c) _ (ends_append (bits 10 y) _ (ends_plain (d ∷ cs) ys (omega arith) (omega arith) (plain_tail c (d ∷ cs) pc) (plain_tail y ys py)))
-ends_plain [] ys e some pc py = absurd (omega arith)
-ends_plain (c ∷ cs) [] e some pc py = absurd (omega arith)
-ends_plain (c ∷ []) (y ∷ z ∷ ys) e some pc py = absurd (omega arith)
+ends_plain cs ys e some pc py = absurd (omega arith)
 
 row_ends : (code line : ℕ) (carry : Carry) (k : Content) → LawfulRow code line carry k → Ends (row_bits (plan_of code line) carry k)
 row_ends code line carry k row =

@@ -74,10 +74,6 @@ module _ (code total : ℕ) (some : 1 ≤ total) (t : Track) (n : Counts) (y c :
     abbrev Waiting : ℕ → ℕ → Type 0
     Waiting ahead j = (ahead ≡ 0) ⊎ ((60 ≤ j) × (ahead + j ≡ 80))
 
-    waiting_not_one : (ahead j : ℕ) → j < 79 → Waiting ahead j → ahead ≡ 1 → ⊥
-    waiting_not_one ahead j h (inl z) e = omega arith
-    waiting_not_one ahead j h (inr w) e = omega arith
-
     waiting_after : (ahead j : ℕ) (sync : Bool) → (sync ≡ true → j + 1 ≡ 60) → j < 79 → Waiting ahead j → Waiting (ahead_after ahead sync) (j + 1)
     waiting_after ahead j true at low w = let e = at refl in inr (omega arith, omega arith)
     waiting_after ahead j false at low (inl z) = inl (omega arith)
@@ -117,7 +113,7 @@ module _ (code total : ℕ) (some : 1 ≤ total) (t : Track) (n : Counts) (y c :
         let long' : length (q1 ++ (b ∷ [])) ≡ j + 1 = length-append q1 (b ∷ []) ∙ ap (λ (m : ℕ). m + 1) at in
         let low : j < 79 = omega (arith, ap length split, length-append q1 (b ∷ q2)) in
         let place : is_sync next ≡ true → j + 1 ≡ 60 = λ s. sym long' ∙ sync_place (q1 ++ (b ∷ [])) q2 split' (omega arith) s in
-        rw (one_bit (last_after q1) ahead j b next (is_sync next) (slid-last_after q1 b) refl place low (waiting_not_one ahead j low w))
+        rw (one_bit (last_after q1) ahead j b next (is_sync next) (slid-last_after q1 b) refl place low (λ o. omega arith))
         (tail_from q2 (q1 ++ (b ∷ [])) (ahead_after ahead (is_sync next)) (j + 1) split' long' (waiting_after ahead j (is_sync next) place low w))
 
     -- from a row whose T pairs have ended

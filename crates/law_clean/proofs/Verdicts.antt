@@ -7,19 +7,18 @@ use Prim.Native.Nat.{ℕ, zero, suc, ◌≤◌}
 use native.Mathlib.Omega.{arith}
 use lib.ListN.{length, take}
 use lib.Seq.{take_all}
+use Rattle.std.specs.Prelude.{Some}
 use Rattle.bits.proofs.Lists.{cons_equal}
 use Rattle.raster.specs.Table.{total_of}
 use Rattle.raster.specs.Lines.{line_refusal}
 use Rattle.raster.proofs.Lines.{line_ok_range, line_refusal_ok}
-use Rattle.timing.specs.Line.{ln0_of, ln1_of}
+use Rattle.timing.specs.Line.{ln0_of, ln1_of, line_told}
 use Rattle.timing.proofs.Line.{line_read_of_build}
 use Rattle.parts.specs.Parts.{part, end_to_end}
 use Rattle.plan.specs.Plan.{plan_of}
 use Rattle.plan.proofs.Plans.{plan_of-fits, plan_of-found, plan_of-total}
 use Rattle.stream.specs.Words.{y_blank, c_blank, line_words_of}
-use Rattle.row.specs.declared.Carry.{Carry}
-use Rattle.row.specs.declared.Carry.TheVariants.{Registers}
-use Rattle.row.specs.Before.{carried}
+use Rattle.row.specs.Before.{Carry, carried}
 use Rattle.row.specs.Row.{judged_by, judged}
 use Rattle.compose.specs.Compose.{stream_of, y_stream, c_stream}
 use Rattle.law_row.proofs.BuiltParts.{length-stream_of, register_after-stream_of}
@@ -74,7 +73,7 @@ module _ (code line : ℕ) (carry : Carry) (k : Content) (row : LawfulRow code l
       ∙ ap₂ (λ (f : ℕ) (after : Carry). record { flags = f; carry = after })
       (judged_no_flag code line carry k.y.active k.c.active k.y.packets k.c.packets row.ok
       row.y.lengths row.c.lengths row.y.right row.c.right row.y.plain row.c.plain seen own)
-      (ap₂ Registers
+      (ap₂ (λ (y c : ℕ). Some (record { y = y; c = c }))
       (register_after-stream_of p fits b.known b.y y_blank k.y.active (end_to_end k.y.packets) row.y.long row.y.room)
       (register_after-stream_of p fits b.known b.c c_blank k.c.active (end_to_end k.c.packets) row.c.long row.c.room))
 
@@ -92,7 +91,7 @@ module _ (code line : ℕ) (carry : Carry) (k : Content) (row : LawfulRow code l
   unfolding stream_of
   line_found l (inl z) =
       let r = line_refusal_ok code line row.ok in
-      rw (z, lines_built) (ap (λ a. a.line) (line_read_of_build code line r.0 r.1))
+      rw (z, lines_built) (ap line_told (line_read_of_build code line r.0 r.1))
   line_found zero (inr e) = absurd (omega (arith, line_low))
   line_found (suc m) (inr e) = e
 

@@ -12,7 +12,7 @@ use borrow.Author.Tests.{le-ltb}
 use Rattle.bits.specs.Bits.{word_bits}
 use Rattle.bits.proofs.Choice.{and-true}
 use Rattle.bits.proofs.Bits.{length-word_bits}
-use Rattle.raster.specs.Table.{looked_up, entry_of, rows_of}
+use Rattle.raster.specs.Table.{raster_given, entry_of, rows_of}
 use Rattle.raster.specs.Lines.{line_refusal}
 use Rattle.raster.proofs.Table.{looked_up_range}
 use Rattle.raster.proofs.Lines.{line_refusal_ok}
@@ -21,8 +21,7 @@ use Rattle.cable.specs.Words.{start_history, unscramble_words}
 use Rattle.cable.proofs.Bits.{unscrambled_of_append, unscrambled_of_scrambled, unscrambled_from_eleventh}
 use Rattle.cable.proofs.Words.{length_unscramble, unscrambled_words_bits}
 use Rattle.plan.specs.Plan.{plan_of}
-use Rattle.row.specs.declared.Carry.{Carry}
-use Rattle.row.specs.Before.{carry_ok}
+use Rattle.row.specs.Before.{Carry, carry_ok}
 use Rattle.judging.specs.Happening.{line_after}
 use Rattle.judging.proofs.Lines.{line_after_ok}
 use Rattle.tally.specs.declared.Verdict.TheVariants.{Pass}
@@ -251,7 +250,7 @@ module _ (line : ℕ) (carry : Carry) (ks : List Content) (ws : List ℕ) (earli
       (rw (fine.seen, fine.faults, le-ltb counted (rows_of code) enough), fine.faults, fine.enough)
 
   capture_zero : WindowCapture 0 line carry ks ws earlier before after rows → WindowCapture 7 line carry ks ws earlier before after rows
-  unfolding looked_up entry_of
+  unfolding raster_given entry_of
   capture_zero capture =
       record {
         line_ok = capture.line_ok;

@@ -12,8 +12,7 @@ use Rattle.raster.specs.Table.{total_of}
 use Rattle.raster.specs.Lines.{line_refusal}
 use Rattle.cable.specs.Channels.{paired}
 use Rattle.plan.specs.Plan.{plan_of}
-use Rattle.row.specs.declared.Carry.{Carry}
-use Rattle.row.specs.Before.{carry_ok}
+use Rattle.row.specs.Before.{Carry, carry_ok}
 use Rattle.judging.specs.Happening.{line_after}
 use Rattle.judging.proofs.Lines.{line_after_ok}
 use Rattle.tally.specs.declared.Counts.{Counts}

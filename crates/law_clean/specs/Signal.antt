@@ -1,5 +1,5 @@
 -- A clean signal: rows built line after line, of lawful words.
-use Rattle.std.specs.Prelude.{◌≡◌, Bool, true, false, not, ◌&&◌, List, [], ◌∷◌, ◌++◌, ℕ, ◌+◌, ◌-◌, ◌*◌, ◌≤◌, ◌<◌, min, length, take, drop}
+use Rattle.std.specs.Prelude.{◌≡◌, Bool, true, false, not, ◌&&◌, List, [], ◌∷◌, ◌++◌, ℕ, ◌+◌, ◌-◌, ◌*◌, ◌≤◌, ◌<◌, min, length, take, drop, Some}
 use Rattle.bits.specs.Bits.{number, word_bits}
 use Rattle.bits.specs.Words.{words10, reserved_code}
 use Rattle.raster.specs.Layout.{sync_of, hd_unit}
@@ -11,9 +11,7 @@ use Rattle.cable.specs.Channels.{paired}
 use Rattle.parts.specs.Parts.{any, end_to_end}
 use Rattle.plan.specs.declared.Plan.{Plan}
 use Rattle.plan.specs.Plan.{plan_of}
-use Rattle.row.specs.declared.Carry.{Carry}
-use Rattle.row.specs.declared.Carry.TheVariants.{Registers}
-use Rattle.row.specs.Before.{carry_ok}
+use Rattle.row.specs.Before.{Carry, carry_ok}
 use Rattle.compose.specs.Compose.{y_stream, c_stream, lengths_ok}
 use Rattle.law_row.specs.Lawful.{all_right}
 use Rattle.recogniser.specs.Sight.{is_eav}
@@ -55,7 +53,7 @@ row_bits p carry k =
 
 -- "check, correction and building answer the next one"
 abbrev pub carry_from : Content → Carry
-carry_from k = Registers (crc_words crc_start k.y.active) (crc_words crc_start k.c.active)
+carry_from k = Some (record { y = crc_words crc_start k.y.active; c = crc_words crc_start k.c.active })
 
 -- rows built line after line (`line_after`: "goes up by one and from N to 1"), each with the carry of the one before
 unfoldable pub signal_bits : ℕ → ℕ → Carry → List Content → List Bool

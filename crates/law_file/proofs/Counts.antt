@@ -4,6 +4,8 @@ use mathlib.Core.Bool.{true}
 use mathlib.Core.List.{List}
 use Prim.Native.Nat.{ℕ, suc, ◌+◌, ◌*◌, ◌/◌}
 use native.Mathlib.Omega.{arith}
+use Rattle.std.specs.Prelude.{Result}
+use Rattle.refusal.specs.declared.Refusal.{Refusal}
 use Rattle.session.specs.declared.Session.{Session}
 use Rattle.reader.specs.declared.Stage.{Stage}
 use Rattle.reader.specs.declared.Count.{Count}
@@ -21,7 +23,7 @@ count_shifts : (a b c d : ℕ) → (((0 / 256 + a * 0x1000000) / 256 + b * 0x100
 count_shifts a b c d = omega arith
 
 -- at a stage that counts, and does `whole` once the count is there
-module _ (stage : Stage) (low : ℕ) (t : Tag) (o : Options) (s : Session) (y c : List ℕ) (whole : ℕ → Read)
+module _ (stage : Stage) (low : ℕ) (t : Tag) (o : Options) (s : Session) (y c : List ℕ) (whole : ℕ → Result Read Refusal)
     (counts : (n : Count) (b : ℕ) → read_of (reader stage n low t o) b ≡ counting (reader stage n low t o) b whole)
     (cuts : (seen : ℕ) → cut_at stage (suc seen) ≡ true) where
   pub count-told : {os : List Outcome} (bs : List ℕ) → Tells os (AfterByte os (at stage (count 0 0) low t o s y c)) (byte_read bs)

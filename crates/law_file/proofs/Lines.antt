@@ -11,11 +11,10 @@ use Rattle.bits.proofs.Choice.{and-true}
 use Rattle.parts.specs.Parts.{end_to_end}
 use Rattle.reader.specs.Reader.{tag_size_ok, printable}
 use Rattle.desk.specs.declared.Job.{Job}
-use Rattle.desk.specs.declared.Outcome.{Outcome}
 use Rattle.desk.specs.Desk.{done, bad_file}
 use Rattle.label.specs.Label.{label_of, tag_text}
 use Rattle.label.proofs.Boxing.{text_of_boxed}
-use Rattle.label.proofs.Lengths.{length_of_label_of}
+use Rattle.label.proofs.Lengths.{length_of_job_label, length_of_bad_file_label}
 use Rattle.law_file.specs.File.{Got, got, cut, wrong, byte_read, count_read, tag_bytes_read, tag_read, options_read, words_read, tag_of, job_read, contents_by, read_in, Contents, outcomes_in, outcomes_of, bench_of}
 use Rattle.law_file.specs.Serving.{printed}
 use Rattle.law_file.specs.Promises.{BenchPrints}
@@ -60,19 +59,19 @@ job_short bs =
 
 -- ---- what is printed
 
-outcome_whole : (o : Outcome) → ShortTag o.job → printed o ≡ label_of o
-outcome_whole o h = text_of_boxed (label_of o) (length_of_label_of o (λ d. h))
+job_line_whole : (j : Job) → ShortTag j → printed (done j) ≡ label_of (done j)
+job_line_whole j h = text_of_boxed (label_of (done j)) (length_of_job_label j h)
 
 bad_file_whole : (n : ℕ) → flat_map printed (bad_file n ∷ []) ≡ flat_map label_of (bad_file n ∷ [])
 unfolding flat_map
-bad_file_whole n = ap (λ (bs : List ℕ). bs ++ []) (outcome_whole (bad_file n) (omega arith))
+bad_file_whole n = ap (λ (bs : List ℕ). bs ++ []) (text_of_boxed (label_of (bad_file n)) (length_of_bad_file_label n))
 
 abbrev Whole : Contents → Type 0
 Whole x = flat_map printed (outcomes_in x) ≡ flat_map label_of (outcomes_in x)
 
 job_whole : (g : Got Job) → Such ShortTag g → (others : List ℕ → Contents) → ((rest : List ℕ) → Whole (others rest)) → Whole (contents_by g others)
 unfolding flat_map
-job_whole (got j rest) (of_got h) others w = ap₂ (λ (line more : List ℕ). line ++ more) (outcome_whole (done j) h) (w rest)
+job_whole (got j rest) (of_got h) others w = ap₂ (λ (line more : List ℕ). line ++ more) (job_line_whole j h) (w rest)
 job_whole cut (of_cut u) others w = bad_file_whole 9
 job_whole (wrong n) (of_wrong u) others w = bad_file_whole n
 

@@ -14,7 +14,7 @@ use Rattle.reader.specs.Reader.{read_of}
 use Rattle.desk.specs.Desk.{longest, turned_y, turned_c, words_at, take_refusal, Standing, next}
 use Rattle.law_file.specs.Serving.{after}
 use Rattle.law_file.specs.Promises.{between, Roomy, NeverRefused}
-use Rattle.law_file.proofs.Open.{Opened, OpenAt, room-left, turned_open}
+use Rattle.law_file.proofs.Open.{Opened, OpenAt, room_read, turned_open}
 
 -- a standing where take is not refused: a session is open while words are read, and a row of any raster fits
 record Serves (x : Standing) : Type 0 where
@@ -26,7 +26,7 @@ unfolding turned_y turned_c
 next_serves b x k =
     record {
       opened = turned_open x.desk x.y x.c k.opened b;
-      room = room-left x.desk.session x.y x.c (read_of x.desk.reader b).piece k.room;
+      room = room_read x.desk.session x.y x.c (read_of x.desk.reader b) k.room;
     }
 
 after_serves : (bs : List ℕ) (x : Standing) → Serves x → Serves (after bs x)

@@ -6,13 +6,16 @@ use Prim.Native.Nat.{ℕ}
 use Rattle.bits.specs.Choice.{if}
 use Rattle.raster.specs.Table.{raster_ok}
 use Rattle.session.specs.declared.Session.{Session}
-use Rattle.session.specs.Session.{closed, begun}
+use Rattle.std.specs.Prelude.{Result, Err}
+use Rattle.refusal.specs.declared.Refusal.{Refusal}
+use Rattle.refusal.specs.declared.Refusal.TheVariants.{BadFile}
+use Rattle.session.specs.Session.{closed, begun, session_or}
 use Rattle.reader.specs.declared.Stage.TheVariants.{OptionsCount, RasterByte, WipeByte, WordCount}
 use Rattle.reader.specs.declared.Tag.{Tag}
 use Rattle.reader.specs.declared.Options.{Options}
 use Rattle.reader.specs.declared.Piece.TheVariants.{More}
 use Rattle.reader.specs.declared.Read.{Read}
-use Rattle.reader.specs.Reader.{options_size_ok, wipe_ok, count, options, reader, goes_on, brings, refused, of_options_count, of_wipe_byte, read_of, is_cut}
+use Rattle.reader.specs.Reader.{options_size_ok, wipe_ok, count, options, reader, goes_on, brings, of_options_count, of_wipe_byte, read_of, is_cut}
 use Rattle.desk.specs.declared.Outcome.{Outcome}
 use Rattle.law_file.specs.File.{then, byte_read, options_of, options_read}
 use Rattle.law_file.specs.Serving.{told_of}
@@ -22,7 +25,7 @@ use Rattle.law_file.proofs.Counts.{count-told}
 
 -- a desk after options, which are lawful
 abbrev pub Chosen : List Outcome → ℕ → Tag → List ℕ → List ℕ → Options → List ℕ → Type 0
-Chosen os low t y c o rest = (raster_ok o.raster ≡ true) × (os ≡ told_of rest (at WordCount (count 0 0) low t o (begun closed o.raster).session y c))
+Chosen os low t y c o rest = (raster_ok o.raster ≡ true) × (os ≡ told_of rest (at WordCount (count 0 0) low t o (session_or closed (begun closed o.raster)) y c))
 
 module _ {os : List Outcome} (low : ℕ) (t : Tag) (o : Options) (s : Session) (y c : List ℕ) where
   bytes_told : (bs : List ℕ) → os ≡ told_of bs (at RasterByte (count 0 0) low t o s y c)
@@ -38,6 +41,6 @@ module _ {os : List Outcome} (low : ℕ) (t : Tag) (o : Options) (s : Session) (
   pub options-told : (bs : List ℕ) → os ≡ told_of bs (at OptionsCount (count 0 0) low t o s y c) → Tells os (Chosen os low t y c) (options_read bs)
   unfolding options_read read_of is_cut of_options_count
   options-told bs e =
-      let whole : ℕ → Read = λ n. if (options_size_ok n) (brings More (goes_on (reader OptionsCount (count 0 0) low t o) RasterByte 0)) (refused 9) in
+      let whole : ℕ → Result Read Refusal = λ n. if (options_size_ok n) (brings More (goes_on (reader OptionsCount (count 0 0) low t o) RasterByte 0)) (Err BadFile) in
       reads_then (count-told OptionsCount low t o s y c whole (λ n b. refl) (λ seen. refl) bs (byte_told bs _ refl e)) λ n p f.
       reads_if (options_size_ok n) (λ u. bytes_told p (rw u at f.1)) (λ u. of_wrong (refused-told 9 y c p (rw u at f.1)))

@@ -5,10 +5,8 @@ use Prim.Native.Nat.{ℕ, zero, suc, ◌+◌, ◌≤◌}
 use native.Mathlib.Omega.{arith}
 use lib.ListN.{length, drop, length-drop}
 use Rattle.parts.specs.Parts.{end_to_end}
-use Rattle.desk.specs.declared.Job.{Job}
-use Rattle.desk.specs.declared.Kind.{Kind}
-use Rattle.desk.specs.declared.Kind.TheVariants.{Nothing, Done, BadFile}
 use Rattle.desk.specs.declared.Outcome.{Outcome}
+use Rattle.desk.specs.declared.Outcome.TheVariants.{Nothing, Done, BadFile}
 use Rattle.desk.specs.Desk.{Walk, walk, walked, walk_of, take_refusal, brought, taken, taken_y, taken_c, finished, Standing, next}
 use Rattle.law_file.specs.Serving.{told, after, answers, Served, served, also_told, served_in, served_all}
 use Rattle.law_file.specs.Promises.{between, ServedAlike, PiecesServed}
@@ -33,20 +31,14 @@ record Walks (bs : List ℕ) (x : Standing) (n : ℕ) (o : Outcome) (w : Walk) :
 at_rest : (bs : List ℕ) (x : Standing) (n : ℕ) (o : Outcome) → Calm x → Walks bs x n o (walk x n o)
 at_rest bs x n o h = record { count = 0; is_taken = omega arith; leads = refl; tells = refl; calm = h }
 
--- an outcome by its kind, on which the walk turns
-abbrev outcome : Kind → Job → Outcome
-outcome kind j = record { kind = kind; job = j }
-
-walks : (bs : List ℕ) (x : Standing) (n : ℕ) (kind : Kind) (j : Job) → Calm x
-    → Walks bs x n (outcome kind j) (walked bs (walk x n (outcome kind j)))
+walks : (bs : List ℕ) (x : Standing) (n : ℕ) (o : Outcome) → Calm x → Walks bs x n o (walked bs (walk x n o))
 unfolding walked after answers
-walks [] x n kind j h = at_rest [] x n (outcome kind j) h
-walks (b ∷ bs) x n Nothing j h =
-    let o = brought b x in
-    let rest = walks bs (next b x) (n + 1) o.kind o.job (λ zs. h (b ∷ zs)) in
+walks [] x n o h = at_rest [] x n o h
+walks (b ∷ bs) x n Nothing h =
+    let rest = walks bs (next b x) (n + 1) (brought b x) (λ zs. h (b ∷ zs)) in
     record { count = suc rest.count; is_taken = omega (arith, rest.is_taken); leads = rest.leads; tells = rest.tells; calm = rest.calm }
-walks (b ∷ bs) x n Done j h = at_rest (b ∷ bs) x n (outcome Done j) h
-walks (b ∷ bs) x n (BadFile e) j h = at_rest (b ∷ bs) x n (outcome (BadFile e) j) h
+walks (b ∷ bs) x n (Done j) h = at_rest (b ∷ bs) x n (Done j) h
+walks (b ∷ bs) x n (BadFile e) h = at_rest (b ∷ bs) x n (BadFile e) h
 
 -- ---- the calls for one piece
 
@@ -63,9 +55,7 @@ module _ (b : ℕ) (bs : List ℕ) (x : Standing) (h : Calm x) where
 
   called_walks : Walks bs (next b x) 1 (brought b x) (call_of (b ∷ bs) x)
   unfolding walked after
-  called_walks =
-      let o = brought b x in
-      walks bs (next b x) 1 o.kind o.job (λ zs. h (b ∷ zs))
+  called_walks = walks bs (next b x) 1 (brought b x) (λ zs. h (b ∷ zs))
 
   -- the first byte is taken
   called_leaves : drop (call_of (b ∷ bs) x).taken (b ∷ bs) ≡ drop called_walks.count bs

@@ -10,11 +10,13 @@ use lib.Seq.{append_snoc, set-append_seam}
 use borrow.Author.Tests.{lt-ltb, le-ltb, leb-true}
 use Rattle.bits.specs.Choice.{if}
 use Rattle.bits.proofs.Choice.{false_not_true, and-true}
+use Rattle.std.specs.Prelude.{Err}
+use Rattle.refusal.specs.declared.Refusal.TheVariants.{BadFile}
 use Rattle.session.specs.declared.Session.{Session}
 use Rattle.reader.specs.declared.Stage.TheVariants.{TagCount, TagBytes, OptionsCount}
 use Rattle.reader.specs.declared.Options.{Options}
 use Rattle.reader.specs.declared.Piece.TheVariants.{More}
-use Rattle.reader.specs.Reader.{tag_size_ok, printable, count, options, no_tag, fresh, goes_on, brings, refused, of_tag_count, tag_with, tagged, of_tag_byte, read_of, is_cut}
+use Rattle.reader.specs.Reader.{tag_size_ok, printable, count, options, no_tag, fresh, goes_on, brings, of_tag_count, tag_with, tagged, of_tag_byte, read_of, is_cut}
 use Rattle.desk.specs.declared.Outcome.{Outcome}
 use Rattle.law_file.specs.File.{byte_read, tag_of, tag_bytes_read, tag_read}
 use Rattle.law_file.specs.Serving.{told_of}
@@ -66,6 +68,6 @@ module _ {os : List Outcome} (s : Session) (y c : List ℕ) where
   unfolding tag_read read_of of_tag_count
   tag_told bs first =
       reads_then
-      (count-told TagCount 0 no_tag (options 0 false) s y c (λ n. if (tag_size_ok n) (brings More (goes_on fresh TagBytes n)) (refused 9)) (λ n b. refl)
+      (count-told TagCount 0 no_tag (options 0 false) s y c (λ n. if (tag_size_ok n) (brings More (goes_on fresh TagBytes n)) (Err BadFile)) (λ n b. refl)
       (λ seen. ap not (eqb-suc-zero seen)) bs first)
       λ n p e. reads_if (tag_size_ok n) (λ t. sized_told n p t (rw t at e.1)) (λ t. of_wrong (refused-told 9 y c p (rw t at e.1)))

@@ -3,6 +3,8 @@ use mathlib.Core.Path.{◌≡◌, refl, ap, ◌∙◌}
 use mathlib.Core.Bool.{true}
 use mathlib.Core.List.{List, [], ◌∷◌, ◌++◌, append_assoc}
 use Prim.Native.Nat.{ℕ}
+use Rattle.std.specs.Prelude.{Result}
+use Rattle.refusal.specs.declared.Refusal.{Refusal}
 use Rattle.session.specs.declared.Session.{Session}
 use Rattle.session.specs.Session.{closed}
 use Rattle.reader.specs.declared.Stage.{Stage}
@@ -12,7 +14,7 @@ use Rattle.reader.specs.declared.Options.{Options}
 use Rattle.reader.specs.declared.Read.{Read}
 use Rattle.reader.specs.Reader.{reader, stopped, read_of, is_cut}
 use Rattle.desk.specs.declared.Outcome.{Outcome}
-use Rattle.desk.specs.Desk.{desk, bad_file, session_after, y_after, c_after, turn_by, turned, turned_y, turned_c, finished, Standing, standing, next}
+use Rattle.desk.specs.Desk.{desk, bad_file, y_read, c_read, turn_read, turned, turned_y, turned_c, finished, Standing, standing, next}
 use Rattle.law_file.specs.File.{Got, byte_read}
 use Rattle.law_file.specs.Serving.{told, after, answers, told_of}
 use Rattle.law_file.proofs.Reading.{Reads, of_got, of_cut}
@@ -28,11 +30,11 @@ at stage n low t o s y c = standing (desk (reader stage n low t o) s) y c
 -- ---- a byte
 
 -- what is told of a byte by what it brought, and of the bytes after it
-abbrev pub told_after : Read → Standing → List ℕ → List Outcome
+abbrev pub told_after : Result Read Refusal → Standing → List ℕ → List Outcome
 told_after r x rest =
-    let turn = turn_by r.ends x.desk.reader r (session_after r.piece x.desk.session x.y x.c) in
+    let turn = turn_read r x.desk x.y x.c in
     told turn.outcome
-    ++ told_of rest (standing turn.desk (y_after r.piece x.desk.session x.y x.c) (c_after r.piece x.desk.session x.y x.c))
+    ++ told_of rest (standing turn.desk (y_read r x.desk.session x.y x.c) (c_read r x.desk.session x.y x.c))
 
 abbrev pub AfterByte : List Outcome → Standing → ℕ → List ℕ → Type 0
 AfterByte os x b rest = os ≡ told_after (read_of x.desk.reader b) x rest

@@ -8,7 +8,6 @@ use lib.Dec.{eqb, eqb-suc-zero}
 use borrow.Author.Tests.{le-ltb}
 use Rattle.bits.specs.Choice.{if}
 use Rattle.bits.specs.Words.{words10}
-use Rattle.session.specs.Session.{ended}
 use Rattle.law_module.specs.Runs.{Bench, fed_once, fed_all}
 use Rattle.reader.specs.declared.Stage.TheVariants.{WordCount, LowByte, HighByte}
 use Rattle.reader.specs.declared.Tag.{Tag}
@@ -17,7 +16,9 @@ use Rattle.reader.specs.declared.Piece.TheVariants.{More}
 use Rattle.reader.specs.declared.Read.{Read}
 use Rattle.reader.specs.Reader.{word_of, word_ok, count, reader, goes_on, brings, ends, of_word_count, of_high_byte, read_of, is_cut}
 use Rattle.desk.specs.declared.Outcome.{Outcome}
-use Rattle.desk.specs.Desk.{done, job_of}
+use Rattle.std.specs.Prelude.{Result}
+use Rattle.refusal.specs.declared.Refusal.{Refusal}
+use Rattle.desk.specs.Desk.{done, end_of, job_of}
 use Rattle.law_file.specs.File.{count_read, words_read}
 use Rattle.law_file.specs.Serving.{told_of}
 use Rattle.law_file.specs.Promises.{between}
@@ -32,13 +33,13 @@ singly ws = map (λ w. w ∷ []) ws
 -- what is told of a job whose words leave this bench, and of the bytes after it
 abbrev pub told_done : Tag → Options → Bench → List ℕ → List Outcome
 told_done t o x rest =
-    done (job_of (reader WordCount (count 0 0) 0 t o) (ended x.session)) ∷ told_of rest (between (ended x.session).session x.y x.c)
+    done (job_of (reader WordCount (count 0 0) 0 t o) (end_of x.session)) ∷ told_of rest (between (end_of x.session).session x.y x.c)
 
 abbrev pub Fed : List Outcome → Tag → Options → Bench → List ℕ → List ℕ → Type 0
 Fed os t o x ws rest = (words10 ws ≡ true) × (os ≡ told_done t o (fed_all (singly ws) x) rest)
 
 -- what the last byte of their count brings
-abbrev counted_words : ℕ → Tag → Options → ℕ → Read
+abbrev counted_words : ℕ → Tag → Options → ℕ → Result Read Refusal
 counted_words low t o n = if (eqb n 0) (ends More) (brings More (goes_on (reader WordCount (count 0 0) low t o) LowByte n))
 
 abbrev pub Counted : List Outcome → ℕ → Tag → Options → Bench → ℕ → List ℕ → Type 0

@@ -1,20 +1,19 @@
 -- A desk served with bytes, in lent buffers that nobody else writes in between.
-use Rattle.std.specs.Prelude.{List, [], ◌∷◌, ◌++◌, ℕ, zero, suc, length, take, drop}
-use Rattle.desk.specs.declared.Kind.{Kind}
-use Rattle.desk.specs.declared.Kind.TheVariants.{Nothing, Done, BadFile}
+use Rattle.std.specs.Prelude.{List, [], ◌∷◌, ◌++◌, ℕ, zero, suc, length, take, drop, Result, Ok, Err}
+use Rattle.refusal.specs.declared.Refusal.{Refusal}
+use Rattle.desk.specs.declared.Desk.{Desk}
 use Rattle.desk.specs.declared.Outcome.{Outcome}
-use Rattle.desk.specs.Desk.{Standing, standing, next, brought, taken, taken_y, taken_c, finished}
+use Rattle.desk.specs.declared.Outcome.TheVariants.{Nothing, Done, BadFile}
+use Rattle.desk.specs.declared.Taken.{Taken}
+use Rattle.desk.specs.Desk.{nothing, Standing, standing, next, brought, taken, taken_y, taken_c, finished}
 use Rattle.label.specs.declared.Label.{Label}
 use Rattle.label.specs.Label.{label_of, boxed}
 
 -- what is told of an outcome: of nothing, nothing
-abbrev pub told_by : Kind → Outcome → List Outcome
-told_by Nothing o = []
-told_by Done o = o ∷ []
-told_by (BadFile n) o = o ∷ []
-
 abbrev pub told : Outcome → List Outcome
-told o = told_by o.kind o
+told Nothing = []
+told (Done j) = Done j ∷ []
+told (BadFile n) = BadFile n ∷ []
 
 -- ---- byte after byte
 
@@ -33,8 +32,13 @@ told_of bs x = answers bs x ++ told (finished (after bs x).desk)
 
 -- ---- by calls of take
 
+-- what a call tells and leaves: "A refusal returns its number with zeros .. and changes .. no session."
+abbrev pub take_left : Desk → Result Taken Refusal → Taken
+take_left d (Ok t) = t
+take_left d (Err refusal) = record { desk = d; taken = 0; outcome = nothing }
+
 abbrev pub after_take : List ℕ → Standing → Standing
-after_take bs x = standing (taken x.desk bs x.y x.c).desk (taken_y x.desk bs x.y x.c) (taken_c x.desk bs x.y x.c)
+after_take bs x = standing (take_left x.desk (taken x.desk bs x.y x.c)).desk (taken_y x.desk bs x.y x.c) (taken_c x.desk bs x.y x.c)
 
 pub record Served : Type 0 where
   pub standing : Standing
@@ -51,7 +55,7 @@ unfoldable pub served_in : ℕ → List ℕ → Standing → Served
 served_in zero bs x = served x []
 served_in (suc k) [] x = served x []
 served_in (suc k) (b ∷ bs) x =
-    let t = taken x.desk (b ∷ bs) x.y x.c in
+    let t = take_left x.desk (taken x.desk (b ∷ bs) x.y x.c) in
     also_told (told t.outcome) (served_in k (drop t.taken (b ∷ bs)) (after_take (b ∷ bs) x))
 
 -- piece after piece

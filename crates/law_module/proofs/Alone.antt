@@ -6,11 +6,11 @@ use Prim.Native.Nat.{ℕ}
 use native.Mathlib.Omega.{arith}
 use Rattle.raster.specs.Table.{raster_ok}
 use Rattle.session.specs.declared.Session.{Session}
-use Rattle.session.specs.Session.{closed, in_range, begun, ended}
+use Rattle.session.specs.Session.{closed, in_range, begun_as, begun, ended, session_or}
 use Rattle.law_module.specs.Runs.{Bench, bench, started, played, answered, left, Fits, nothing_in}
 use Rattle.law_module.proofs.Refusals.{end_answers}
 use Rattle.law_module.proofs.Ranges.{closed_in_range, begun_in_range, ended_in_range}
-use Rattle.law_module.proofs.Between.{begun_as, begun_opens, ended_shut}
+use Rattle.law_module.proofs.Between.{begun_opens, ended_shut}
 use Rattle.law_module.proofs.Feeds.{fed_all_in_range, length-fed_all}
 use Rattle.law_module.proofs.Own.{own, taken_by_words, answer_is_the_modules_own, second_is_its_own}
 use Rattle.law_module.proofs.Opened.{opened_in_range}
@@ -38,6 +38,6 @@ module _ (code : ℕ) (ok : raster_ok code ≡ true) where
       ∙ sym (answer_is_the_modules_own code feeds y c ok alone.0 alone.1)
 
   -- begin and end, with no feed and no buffers
-  pub ended_of_no_words : (s : Session) → s.running ≡ false → in_range s ≡ true → ended (begun s code).session ≡ nothing_in code
+  pub ended_of_no_words : (s : Session) → s.running ≡ false → in_range s ≡ true → ended (session_or s (begun s code)) ≡ nothing_in code
   unfolding ended
   ended_of_no_words s shut h = rw (begun_opens s code shut h ok, end_answers (begun_as code) refl (opened_in_range code ok))

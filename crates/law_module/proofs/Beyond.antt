@@ -17,7 +17,7 @@ use Rattle.parts.specs.Parts.{unless_refused}
 use Rattle.parts.proofs.Laid.{drop_of_laid}
 use Rattle.stream.specs.Words.{trs}
 use Rattle.recogniser.specs.declared.Event.{Event}
-use Rattle.recogniser.specs.declared.Event.TheVariants.{Outside, Within, Pair, Opens, Whole, Early, Late, Astray}
+use Rattle.recogniser.specs.declared.Event.TheVariants.{Pair, Opens, Whole, Early}
 use Rattle.recogniser.specs.Sight.{c_word, y_word}
 use Rattle.laying.specs.Laying.{pair_laid, laid_by}
 use Rattle.stepper.specs.Step.{Run, run, recognised, stepped}
@@ -46,14 +46,11 @@ module _ (limit total : ℕ) (low : 4 ≤ total) (high : total ≤ limit) where
 
   beyond_event : (event : Event) (at w : ℕ) (buffer : List ℕ) → beyond (laid_by event total at w buffer) ≡ beyond buffer
   unfolding laid_by
-  beyond_event Outside at w buffer = refl
-  beyond_event Within at w buffer = refl
   beyond_event Pair at w buffer = beyond_pair at w buffer
   beyond_event Opens at w buffer = beyond_eav w buffer
   beyond_event Whole at w buffer = beyond_eav w buffer
   beyond_event Early at w buffer = beyond_eav w (pair_laid total at w buffer) ∙ beyond_pair at w buffer
-  beyond_event Late at w buffer = refl
-  beyond_event Astray at w buffer = refl
+  beyond_event _ at w buffer = refl
 
   kept_step : (y c : List ℕ) (code : ℕ) (b : Bool) (x : Run) → (beyond x.y ≡ beyond y) × (beyond x.c ≡ beyond c)
       → (beyond (stepped laid_by code total b x).y ≡ beyond y) × (beyond (stepped laid_by code total b x).c ≡ beyond c)

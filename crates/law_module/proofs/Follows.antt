@@ -68,14 +68,12 @@ module _ (total : ℕ) where
 
       words : (event : Event)
           → listed event total p.pairs w row ≡ take (min (place_after event p).pairs total) (laid_by event total p.pairs w buffer)
-      words Outside = no_words
       words Within = r.words
       words Pair = pair_words p.pairs w buffer row r
       words Opens = eav_words w buffer t r.room
       words Whole = eav_words w buffer t r.room
       words Early = eav_words w (pair_laid total p.pairs w buffer) t (omega (arith, r.room, length-laid_by Pair total p.pairs w buffer))
-      words Late = no_words
-      words Astray = no_words
+      words _ = no_words
 
   -- a whole row: its first T words
   holds_whole : (pairs : ℕ) (buffer row : List ℕ) → total ≤ pairs → Holds pairs buffer row → part 0 total row ≡ part 0 total buffer
@@ -92,25 +90,19 @@ whole_is_long total ahead p last e = go (eqb p.pairs 0) (eav_ends ahead last) (i
     go : (z eav fourth nineteen sync : Bool) → (fourth ≡ true → total + 3 ≤ p.pairs)
         → if z (if eav Opens Outside) (if eav (if fourth Whole Early) (if nineteen (if fourth Late Pair) (if sync Astray Within))) ≡ Whole
         → total ≤ p.pairs
-    go true true fourth nineteen sync f h = let z : ◌≡◌ {A = ℕ} 0 1 = cc in omega arith
-    go true false fourth nineteen sync f h = let z : ◌≡◌ {A = ℕ} 0 1 = cc in omega arith
+    go true true fourth nineteen sync f h = absurd cc
+    go true false fourth nineteen sync f h = absurd cc
     go false true true nineteen sync f h = omega (arith, f refl)
-    go false true false nineteen sync f h = let z : ◌≡◌ {A = ℕ} 0 1 = cc in omega arith
-    go false false true true sync f h = let z : ◌≡◌ {A = ℕ} 0 1 = cc in omega arith
-    go false false false true sync f h = let z : ◌≡◌ {A = ℕ} 0 1 = cc in omega arith
-    go false false fourth false true f h = let z : ◌≡◌ {A = ℕ} 0 1 = cc in omega arith
-    go false false fourth false false f h = let z : ◌≡◌ {A = ℕ} 0 1 = cc in omega arith
+    go false true false nineteen sync f h = absurd cc
+    go false false true true sync f h = absurd cc
+    go false false false true sync f h = absurd cc
+    go false false fourth false true f h = absurd cc
+    go false false fourth false false f h = absurd cc
 
 happened_alike : (event : Event) (code : ℕ) (t : Track) (y c v d : List ℕ) → (event ≡ Whole → (y ≡ v) × (c ≡ d)) → happened event code t y c ≡ happened event code t v d
 unfolding happened
-happened_alike Outside code t y c v d same = refl
-happened_alike Within code t y c v d same = refl
-happened_alike Pair code t y c v d same = refl
-happened_alike Opens code t y c v d same = refl
 happened_alike Whole code t y c v d same = ap₂ (λ (y c : List ℕ). happened Whole code t y c) (same refl).0 (same refl).1
-happened_alike Early code t y c v d same = refl
-happened_alike Late code t y c v d same = refl
-happened_alike Astray code t y c v d same = refl
+happened_alike _ code t y c v d same = refl
 
 -- ---- a step, and all of them
 

@@ -9,7 +9,7 @@ use Rattle.bits.specs.Choice.{if}
 use Rattle.parts.proofs.Laid.{length-laid}
 use Rattle.stream.specs.Words.{trs}
 use Rattle.recogniser.specs.declared.Event.{Event}
-use Rattle.recogniser.specs.declared.Event.TheVariants.{Outside, Within, Pair, Opens, Whole, Early, Late, Astray}
+use Rattle.recogniser.specs.declared.Event.TheVariants.{Pair, Opens, Whole, Early}
 use Rattle.recogniser.specs.Sight.{c_word, y_word}
 use Rattle.laying.specs.Laying.{pair_laid, laid_by}
 use Rattle.stepper.specs.Step.{Run, recognised, stepped, steps}
@@ -24,14 +24,11 @@ length-pair_laid total at w buffer = go (ltb at total)
 
 pub length-laid_by : (event : Event) (total at w : ℕ) (buffer : List ℕ) → length (laid_by event total at w buffer) ≡ length buffer
 unfolding laid_by
-length-laid_by Outside total at w buffer = refl
-length-laid_by Within total at w buffer = refl
 length-laid_by Pair total at w buffer = length-pair_laid total at w buffer
 length-laid_by Opens total at w buffer = length-laid 0 (trs w) buffer
 length-laid_by Whole total at w buffer = length-laid 0 (trs w) buffer
 length-laid_by Early total at w buffer = length-laid 0 (trs w) (pair_laid total at w buffer) ∙ length-pair_laid total at w buffer
-length-laid_by Late total at w buffer = refl
-length-laid_by Astray total at w buffer = refl
+length-laid_by _ total at w buffer = refl
 
 module _ (code total : ℕ) (x : Run) where
   Same : Run → Type 0

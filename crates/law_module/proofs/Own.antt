@@ -5,42 +5,43 @@ use mathlib.Core.List.{List, flat_map}
 use Prim.Native.Nat.{ℕ, zero, suc, ◌≤◌, min}
 use native.Mathlib.Omega.{arith}
 use lib.ListN.{length}
+use Rattle.std.specs.Prelude.{Result, Ok}
+use Rattle.refusal.specs.declared.Refusal.{Refusal}
 use Rattle.raster.specs.Table.{meant, raster_ok, total_of, rows_of}
-use Rattle.raster.proofs.Table.{meant_ok, looked_up_range, looked_up_zero}
+use Rattle.raster.proofs.Table.{meant_ok, looked_up_range, raster_given_zero}
 use Rattle.stepper.specs.declared.State.{State}
 use Rattle.session.specs.declared.Ended.{Ended}
 use Rattle.tally.specs.Tally.{verdict_of}
 use Rattle.stepper.specs.Step.{run}
-use Rattle.session.specs.Session.{start_state, closed, in_range, fed_run, ended_by, ended}
+use Rattle.session.specs.Session.{start_state, closed, in_range, begun_as, fed_run, ended_as, ended}
 use Rattle.law_module.specs.Module.{begun_run, after_bits, bits_of, module_of}
 use Rattle.law_module.specs.Runs.{Bench, bench, fed_all, taken, started, played, answered, left}
 use Rattle.law_module.proofs.Refusals.{end_answers}
 use Rattle.law_module.proofs.Ranges.{closed_in_range, begun_in_range, ended_in_range}
-use Rattle.law_module.proofs.Between.{begun_as, begun_opens, ended_shut}
+use Rattle.law_module.proofs.Between.{begun_opens, ended_shut}
 use Rattle.law_module.proofs.Feeds.{ReadyOn, fed_all_in_range, length-fed_all, ready-after_all}
 use Rattle.law_module.proofs.Cuts.{lawful, fed_all_of_lawful, taken_are_lawful}
 use Rattle.law_module.proofs.Follows.{steps_follow}
 
 -- "End answers raster, both counts and verdict, and one closed session": those of the module's raster and words alone
-abbrev pub own : ℕ → List ℕ → Ended
+abbrev pub own : ℕ → List ℕ → Result Ended Refusal
 own code ws =
-    record {
-      refusal = 0;
+    Ok
+    (record {
       raster = (module_of code ws).raster;
       counts = (module_of code ws).counts;
       verdict = (module_of code ws).verdict;
       session = closed;
-    }
+    })
 
 pub total_of_meant : (code : ℕ) → total_of (meant code) ≡ total_of code
-total_of_meant zero = ap (λ l. l.raster.layout.total) (sym looked_up_zero)
+total_of_meant zero = ap (λ r. r.layout.total) (sym raster_given_zero)
 total_of_meant (suc n) = refl
 
 -- what is answered of a state
 abbrev told : ℕ → State → Ended
 told code s =
     record {
-      refusal = 0;
       raster = code;
       counts = s.counts;
       verdict = verdict_of s.sight.window.seen (rows_of code) s.counts;
@@ -72,8 +73,8 @@ module _ (code : ℕ) (ok : raster_ok code ≡ true) where
         let x = bench (begun_as code) y c in
         let r = ready-after_all feeds x begun-ready in
         rw (taken_are_lawful feeds x begun-ready, end_answers (fed_all feeds x).session r.running r.in_range_holds)
-        (ap (λ (z : Bench). ended_by 0 z.session) (fed_all_of_lawful feeds x begun-ready)
-        ∙ ap (told (meant code)) (state_after (flat_map lawful feeds)))
+        (ap (λ (z : Bench). Ok (ended_as z.session)) (fed_all_of_lawful feeds x begun-ready)
+        ∙ ap (λ s. Ok (told (meant code) s)) (state_after (flat_map lawful feeds)))
 
   -- in any session that is not open, and in any buffers that a row fits into
   module _ (feeds : List (List ℕ)) (x : Bench) (shut : x.session.running ≡ false) (h : in_range x.session ≡ true)

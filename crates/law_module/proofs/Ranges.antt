@@ -2,7 +2,7 @@
 use mathlib.Core.Path.{◌≡◌, refl}
 use mathlib.Core.Bool.{Bool, true}
 use mathlib.Core.List.{List}
-use Prim.Native.Nat.{ℕ, zero, suc}
+use Prim.Native.Nat.{ℕ}
 use native.Mathlib.Omega.{arith}
 use borrow.Author.Tests.{le-leb}
 use Rattle.bits.specs.Bits.{word_bits}
@@ -13,11 +13,11 @@ use Rattle.cable.proofs.Words.{unscramble_next_range}
 use Rattle.parts.specs.Parts.{part}
 use Rattle.session.specs.declared.Session.{Session}
 use Rattle.stepper.specs.Step.{Run, run, Laying, recognised, stepped, steps}
-use Rattle.session.specs.Session.{closed, sight_in, track_in, in_range, begin_refusal, begun_by, begun, feed_refusal, fed_run, fed_session, fed_by, fed, end_refusal, ended_by, ended}
+use Rattle.session.specs.Session.{closed, sight_in, track_in, in_range, begin_refusal, begun_as, begun, feed_refusal, fed_run, fed_session, fed, ended, session_or, session_left}
 use Rattle.session.proofs.Ranges.{in_range_holds, ranges}
 use Rattle.session.proofs.Refusing.{ready_raster, feed_taken}
 use Rattle.laying.specs.Laying.{laid_by}
-use Rattle.law_module.proofs.Refusals.{begin_taken}
+use Rattle.law_module.proofs.Refusals.{begin_taken, left_in, left_at_end}
 use Rattle.law_module.proofs.Folds.{steps_keep}
 use Rattle.law_module.proofs.Sights.{sight_kept}
 use Rattle.law_module.proofs.Tracks.{track_kept}
@@ -43,20 +43,19 @@ pub closed_in_range : in_range closed ≡ true
 unfolding in_range
 closed_in_range = refl
 
-pub begun_in_range : (s : Session) (code : ℕ) → in_range s ≡ true → in_range (begun s code).session ≡ true
+pub begun_in_range : (s : Session) (code : ℕ) → in_range s ≡ true → in_range (session_or s (begun s code)) ≡ true
 unfolding begun in_range
-begun_in_range s code h = go (begin_refusal s code) refl
+begun_in_range s code h = left_in (λ z. in_range z ≡ true) s (begun_as code) (begin_refusal s code) h made
   where
-    go : (n : ℕ) → begin_refusal s code ≡ n → in_range (begun_by n s code).session ≡ true
-    go zero e = let r = meant_range code (begin_taken s code e).2 in rw (le-leb 1 (meant code) r.0, le-leb (meant code) highest r.1)
-    go (suc n) e = h
+    made : begin_refusal s code ≡ 0 → in_range (begun_as code) ≡ true
+    made e = let r = meant_range code (begin_taken s code e).2 in rw (le-leb 1 (meant code) r.0, le-leb (meant code) highest r.1)
 
-pub fed_in_range : (s : Session) (ws y c : List ℕ) → in_range s ≡ true → in_range (fed s ws y c).session ≡ true
+pub fed_in_range : (s : Session) (ws y c : List ℕ) → in_range s ≡ true → in_range (session_or s (fed s ws y c)) ≡ true
 unfolding fed fed_run Kept
-fed_in_range s ws y c h = go (feed_refusal s ws y c) refl
+fed_in_range s ws y c h = left_in (λ z. in_range z ≡ true) s (fed_session s ws (fed_run s ws y c)) (feed_refusal s ws y c) h made
   where
-    go : (n : ℕ) → feed_refusal s ws y c ≡ n → in_range (fed_by n s ws (fed_run s ws y c)).session ≡ true
-    go zero e =
+    made : feed_refusal s ws y c ≡ 0 → in_range (fed_session s ws (fed_run s ws y c)) ≡ true
+    made e =
         let r = ranges s h in
         let k = steps_in_range laid_by s.raster (ready_raster (feed_taken s ws y c e).0)
         (word_bits (unscramble_words s.history ws)) (run s.state y c) (r.sight, r.track) in
@@ -67,21 +66,13 @@ fed_in_range s ws y c h = go (feed_refusal s ws y c) refl
           sight = k.0;
           track = k.1;
         }
-    go (suc n) e = h
 
-pub ended_in_range : (s : Session) → in_range s ≡ true → in_range (ended s).session ≡ true
-unfolding ended
-ended_in_range s h = go (end_refusal s)
-  where
-    go : (n : ℕ) → in_range (ended_by n s).session ≡ true
-    go zero = closed_in_range
-    go (suc n) = h
+pub ended_in_range : (s : Session) → in_range s ≡ true → in_range (session_left s (ended s)) ≡ true
+ended_in_range s h = left_at_end (λ z. in_range z ≡ true) s h closed_in_range
 
 -- a feed leaves open what is open, and its raster
-pub fed_keeps : (s : Session) (ws y c : List ℕ) → ((fed s ws y c).session.running ≡ s.running) × ((fed s ws y c).session.raster ≡ s.raster)
+pub fed_keeps : (s : Session) (ws y c : List ℕ) → ((session_or s (fed s ws y c)).running ≡ s.running) × ((session_or s (fed s ws y c)).raster ≡ s.raster)
 unfolding fed
-fed_keeps s ws y c = go (feed_refusal s ws y c)
-  where
-    go : (n : ℕ) → ((fed_by n s ws (fed_run s ws y c)).session.running ≡ s.running) × ((fed_by n s ws (fed_run s ws y c)).session.raster ≡ s.raster)
-    go zero = (refl, refl)
-    go (suc n) = (refl, refl)
+fed_keeps s ws y c =
+    left_in (λ z. (z.running ≡ s.running) × (z.raster ≡ s.raster)) s (fed_session s ws (fed_run s ws y c)) (feed_refusal s ws y c) (refl, refl)
+    (λ e. (refl, refl))

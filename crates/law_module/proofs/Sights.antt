@@ -108,7 +108,7 @@ module _ (total ahead : ℕ) (p : Place) where
   no_row_step t r false sync one = shuts_in r.ahead sync
 
   open_ahead : OpenRow total ahead p → ahead ≤ 20
-  open_ahead r = ⊎_elim (λ e. omega arith) (λ e. omega arith) r.ahead
+  open_ahead r = omega arith
 
   open_row_step : 1 ≤ total → OpenRow total ahead p → (eav fourth nineteen sync : Bool) → (eav ≡ true → ahead ≡ 1) → is_fourth total p.pairs ≡ fourth → leb 19 p.bit ≡ nineteen
       → After (if eav (if fourth Whole Early) (if nineteen (if fourth Late Pair) (if sync Astray Within))) sync
@@ -121,7 +121,7 @@ module _ (total ahead : ℕ) (p : Place) where
   open_row_step t r false false true false one ef en =
       open_row_in total (ahead - 1) (place (p.pairs + 1) 0)
       record {
-        ahead = inl (⊎_elim (λ e. omega arith) (λ e. omega (arith, leb-true 19 p.bit en)) r.ahead);
+        ahead = inl (omega (arith, leb-true 19 p.bit en, r.ahead));
         low = omega (arith, r.low);
         high = omega (arith, leb-false (total + 3) p.pairs ef);
         bit = omega arith;

@@ -1,12 +1,14 @@
 -- Laws of the counts: they are those of the happenings, up to the ceiling.
 use mathlib.Core.Path.{◌≡◌, refl, sym, ap, ap₂, ◌∙◌}
-use mathlib.Core.Bool.{Bool, true, false}
+use mathlib.Core.Bool.{Bool, true, false, cond}
 use mathlib.Core.List.{List, [], ◌∷◌, ◌++◌}
 use Prim.Native.Nat.{ℕ, ◌+◌, ◌≤◌, ◌<◌, min}
 use native.Mathlib.Omega.{arith}
 use native.Mathlib.Nat.{zero-add}
 use lib.Dec.{ltb}
 use borrow.Author.Tests.{ltb-true, ltb-false}
+use Rattle.std.specs.List.{count_by}
+use Rattle.std.proofs.lemmas.List.Sums.{sum_by-cons}
 use Rattle.bits.specs.Choice.{if}
 use Rattle.raster.specs.Table.{meant, total_of}
 use Rattle.judging.specs.declared.Happening.{Happening}
@@ -35,11 +37,6 @@ counts_of_happenings lay code total (b ∷ bs) x =
 
 -- ---- the ceiling
 
--- how many of the happenings pass a test
-abbrev pub count_of : (Happening → Bool) → List Happening → ℕ
-count_of f [] = 0
-count_of f (h ∷ hs) = if (f h) 1 0 + count_of f hs
-
 both : {r s f g : ℕ} → r ≡ s → f ≡ g → ◌≡◌ {A = Counts} (record { rows = r; faults = f }) (record { rows = s; faults = g })
 both p q = ap₂ (λ (r f : ℕ). record { rows = r; faults = f }) p q
 
@@ -57,7 +54,7 @@ ceiling_stays (h ∷ hs) n =
     (λ e. rest.0 (raised_stays (is_row h) n.rows e), λ e. rest.1 (raised_stays (is_fault h) n.faults e))
 
 -- .. and below it, it is the number of those that count
-raised_counts : (one : Bool) (n m : ℕ) → n ≤ ceiling → (min ceiling (raised one n + m) ≡ min ceiling (n + (if one 1 0 + m))) × (raised one n ≤ ceiling)
+raised_counts : (one : Bool) (n m : ℕ) → n ≤ ceiling → (min ceiling (raised one n + m) ≡ min ceiling (n + (cond one 1 0 + m))) × (raised one n ≤ ceiling)
 raised_counts true n m h = go (ltb n ceiling) (ltb-true n ceiling) (ltb-false n ceiling)
   where
     go : (t : Bool) → (t ≡ true → n < ceiling) → (t ≡ false → ceiling ≤ n)
@@ -67,24 +64,24 @@ raised_counts true n m h = go (ltb n ceiling) (ltb-true n ceiling) (ltb-false n 
 raised_counts false n m h = (omega arith, h)
 
 pub tally_counts : (hs : List Happening) (n : Counts) → n.rows ≤ ceiling → n.faults ≤ ceiling
-    → tallied hs n ≡ record { rows = min ceiling (n.rows + count_of is_row hs); faults = min ceiling (n.faults + count_of is_fault hs) }
+    → tallied hs n ≡ record { rows = min ceiling (n.rows + count_by is_row hs); faults = min ceiling (n.faults + count_by is_fault hs) }
 unfolding tallied
 tally_counts [] n r f = let p : n.rows ≡ min ceiling (n.rows + 0) = omega arith in let q : n.faults ≡ min ceiling (n.faults + 0) = omega arith in both p q
 tally_counts (h ∷ hs) n r f =
-    let p = raised_counts (is_row h) n.rows (count_of is_row hs) r in
-    let q = raised_counts (is_fault h) n.faults (count_of is_fault hs) f in
-    tally_counts hs (counted h n) p.1 q.1 ∙ both p.0 q.0
+    let p = raised_counts (is_row h) n.rows (count_by is_row hs) r in
+    let q = raised_counts (is_fault h) n.faults (count_by is_fault hs) f in
+    simp sum_by-cons (tally_counts hs (counted h n) p.1 q.1 ∙ both p.0 q.0)
 
 -- a module's counts
 pub counts_of_module : (code : ℕ) (ws : List ℕ)
     → (module_of code ws).counts
     ≡ record {
-      rows = min ceiling (count_of is_row (happenings_of (meant code) (bits_of ws)));
-      faults = min ceiling (count_of is_fault (happenings_of (meant code) (bits_of ws)));
+      rows = min ceiling (count_by is_row (happenings_of (meant code) (bits_of ws)));
+      faults = min ceiling (count_by is_fault (happenings_of (meant code) (bits_of ws)));
     }
 unfolding module_of
 counts_of_module code ws =
     let hs = happenings_of (meant code) (bits_of ws) in
     counts_of_happenings listed (meant code) (total_of (meant code)) (bits_of ws) begun_run
     ∙ tally_counts hs no_counts (omega arith) (omega arith)
-    ∙ both (ap (min ceiling) (zero-add (count_of is_row hs))) (ap (min ceiling) (zero-add (count_of is_fault hs)))
+    ∙ both (ap (min ceiling) (zero-add (count_by is_row hs))) (ap (min ceiling) (zero-add (count_by is_fault hs)))

@@ -11,11 +11,10 @@ use Rattle.crc.proofs.Range.{crc_words_ok}
 use Rattle.plan.specs.declared.Plan.{Plan}
 use Rattle.plan.specs.Plan.{plan_of}
 use Rattle.region.specs.Ancillary.{active_of}
-use Rattle.row.specs.declared.Carry.{Carry}
-use Rattle.row.specs.Before.{carry_ok}
+use Rattle.row.specs.Before.{Carry, carry_ok}
 use Rattle.row.specs.Row.{judged_by, judged}
 use Rattle.recogniser.specs.declared.Event.{Event}
-use Rattle.recogniser.specs.declared.Event.TheVariants.{Outside, Within, Pair, Opens, Whole, Early, Late, Astray}
+use Rattle.recogniser.specs.declared.Event.TheVariants.{Whole, Early, Late, Astray}
 use Rattle.judging.specs.declared.Track.{Track}
 use Rattle.judging.specs.Happening.{line_of, line_after, completed, happened}
 use Rattle.judging.proofs.Lines.{line_after_range}
@@ -47,11 +46,8 @@ module _ (code : ℕ) (ok : raster_ok code ≡ true) where
   -- whatever the event and the row, the range is kept
   pub track_kept : (event : Event) (t : Track) (y c : List ℕ) → track_in (rows_of code) t ≡ true → track_in (rows_of code) (happened event code t y c).track ≡ true
   unfolding happened
-  track_kept Outside t y c h = h
-  track_kept Within t y c h = h
-  track_kept Pair t y c h = h
-  track_kept Opens t y c h = h
   track_kept Whole t y c h = completed_in (line_of code t.line y) t.carry y c
   track_kept Early t y c h = refl
   track_kept Late t y c h = refl
   track_kept Astray t y c h = refl
+  track_kept _ t y c h = h

@@ -3,10 +3,10 @@ use mathlib.Core.Path.{◌≡◌, refl, subst}
 use mathlib.Core.Bool.{Bool, true, false}
 use mathlib.Core.List.{List, [], ◌∷◌, ◌++◌, append_assoc, append-nil}
 use mathlib.Core.Logic.{◌↔◌}
-use mathlib.Core.Option.{none}
 use Prim.Native.Nat.{ℕ, ◌≤◌, ◌<◌}
 use lib.Dec.{ltb, eqb}
 use borrow.Author.Tests.{ltb-true, ltb-false, lt-ltb, le-ltb, eqb-true, eqb-false, eq-eqb, ne_eqb}
+use Rattle.std.specs.Prelude.{None}
 use Rattle.bits.specs.Choice.{if}
 use Rattle.bits.specs.Bits.{word_bits}
 use Rattle.raster.specs.Table.{meant, total_of, rows_of}
@@ -36,7 +36,7 @@ module _ (lay : Laying) (code total : ℕ) where
 
 -- "A sync is .. found at any bit of the unscrambled stream": there is none
 abbrev pub NoSync : List ℕ → Type 0
-NoSync ws = first_sync (unscramble_words start_history ws) ≡ none
+NoSync ws = first_sync (unscramble_words start_history ws) ≡ None
 
 module _ (code : ℕ) (ws : List ℕ) where
   abbrev pub row_count : ℕ
@@ -100,7 +100,7 @@ module _ (code : ℕ) (ws : List ℕ) where
   pub verdict_exactly : (v : Verdict) → (module_of code ws).verdict ≡ v ↔ Says v
   verdict_exactly v = (λ e. subst Says e says_own, said_only v)
 
-  pub no_signal_exactly : (module_of code ws).verdict ≡ NoSignal ↔ first_sync (unscramble_words start_history ws) ≡ none
+  pub no_signal_exactly : (module_of code ws).verdict ≡ NoSignal ↔ first_sync (unscramble_words start_history ws) ≡ None
   no_signal_exactly = verdict_exactly NoSignal
 
 -- ---- a module without words

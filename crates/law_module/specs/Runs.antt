@@ -1,12 +1,13 @@
 -- Runs of a session: begin, feeds, end, in lent buffers that nobody else writes in between.
-use Rattle.std.specs.Prelude.{List, [], ◌∷◌, ◌++◌, ℕ, zero, suc, ◌≤◌, min, length, take}
+use Rattle.std.specs.Prelude.{List, [], ◌∷◌, ◌++◌, ℕ, zero, suc, ◌≤◌, min, length, take, Result, Ok}
+use Rattle.refusal.specs.declared.Refusal.{Refusal}
 use Rattle.raster.specs.Table.{meant, total_of}
 use Rattle.tally.specs.declared.Verdict.TheVariants.{NoSignal}
 use Rattle.tally.specs.Tally.{no_counts}
 use Rattle.stepper.specs.Step.{Run}
 use Rattle.session.specs.declared.Session.{Session}
 use Rattle.session.specs.declared.Ended.{Ended}
-use Rattle.session.specs.Session.{closed, begun, feed_refusal, fed, fed_y, fed_c, ended}
+use Rattle.session.specs.Session.{closed, begun, feed_refusal, fed, fed_y, fed_c, ended, session_or, session_left}
 use Rattle.law_module.specs.Module.{after_bits, bits_of}
 
 -- a session between two calls, and the buffers then
@@ -20,7 +21,7 @@ bench s y c = record { session = s; y = y; c = c }
 
 -- one feed
 abbrev pub fed_once : List ℕ → Bench → Bench
-fed_once ws x = bench (fed x.session ws x.y x.c).session (fed_y x.session ws x.y x.c) (fed_c x.session ws x.y x.c)
+fed_once ws x = bench (session_or x.session (fed x.session ws x.y x.c)) (fed_y x.session ws x.y x.c) (fed_c x.session ws x.y x.c)
 
 -- feed after feed
 unfoldable pub fed_all : List (List ℕ) → Bench → Bench
@@ -39,17 +40,17 @@ taken (ws ∷ feeds) x = taken_if (feed_refusal x.session ws x.y x.c) ws ++ take
 
 -- begin with a raster
 abbrev pub started : ℕ → Bench → Bench
-started code x = bench (begun x.session code).session x.y x.c
+started code x = bench (session_or x.session (begun x.session code)) x.y x.c
 
 -- then feeds; what end answers; what is left for the next module
 abbrev pub played : ℕ → List (List ℕ) → Bench → Bench
 played code feeds x = fed_all feeds (started code x)
 
-abbrev pub answered : ℕ → List (List ℕ) → Bench → Ended
+abbrev pub answered : ℕ → List (List ℕ) → Bench → Result Ended Refusal
 answered code feeds x = ended (played code feeds x).session
 
 abbrev pub left : ℕ → List (List ℕ) → Bench → Bench
-left code feeds x = bench (answered code feeds x).session (played code feeds x).y (played code feeds x).c
+left code feeds x = bench (session_left (played code feeds x).session (answered code feeds x)) (played code feeds x).y (played code feeds x).c
 
 -- ---- what users of a run suppose and are told, in the paper's words
 
@@ -58,8 +59,8 @@ abbrev pub Fits : ℕ → List ℕ → List ℕ → Type 0
 Fits code y c = (total_of code ≤ length y) × (total_of code ≤ length c)
 
 -- "raster R rows 0 faults 0 NO SIGNAL"
-abbrev pub nothing_in : ℕ → Ended
-nothing_in code = record { refusal = 0; raster = meant code; counts = no_counts; verdict = NoSignal; session = closed }
+abbrev pub nothing_in : ℕ → Result Ended Refusal
+nothing_in code = Ok (record { raster = meant code; counts = no_counts; verdict = NoSignal; session = closed })
 
 -- what a buffer holds of an open row: as many words as pairs have ended, at most T
 abbrev pub open_row : ℕ → Session → List ℕ → List ℕ

@@ -13,36 +13,14 @@ use Rattle.plan.specs.Plan.{plan_of}
 use Rattle.plan.specs.Refusal.{or_refusal, row_refusal}
 use Rattle.finding.specs.declared.Channel.{Channel}
 use Rattle.finding.specs.Extract.{channel_of, extract_refusal, packets_in}
-use Rattle.row.specs.declared.Carry.{Carry}
-use Rattle.row.specs.Before.{carry_ok}
+use Rattle.row.specs.Before.{Carry, carry_ok}
 use Rattle.row.specs.Row.{check_refusal}
 use Rattle.compose.specs.Compose.{build_refusal, room_ok}
-use Rattle.law_refusal.specs.Rows.{Listed, Sized, Sound, parts_ok, rows_ok, words_ok}
+use Rattle.law_refusal.specs.Rows.{parts_ok, rows_ok, words_ok}
 
 unfoldable pub numbered : ℕ → ℕ → Bool → Bool → Bool → ℕ
 numbered code line lengths words room =
     if (raster_ok code) (if (line_ok code line) (if lengths (if words (if room 0 1) 3) 2) 5) 4
-
--- a clause of each number
-pub record Clauses (code line : ℕ) (lengths words room : Bool) (n : ℕ) : Type 0 where
-  pub four : raster_ok code ≡ false → n ≡ 4
-  pub five : raster_ok code ≡ true → line_ok code line ≡ false → n ≡ 5
-  pub two : Listed code line → lengths ≡ false → n ≡ 2
-  pub three : Sized code line lengths → words ≡ false → n ≡ 3
-  pub one : Sound code line lengths words → room ≡ false → n ≡ 1
-  pub done : Sound code line lengths words → room ≡ true → n ≡ 0
-
-pub clauses : (code line : ℕ) (lengths words room : Bool) {n : ℕ} → n ≡ numbered code line lengths words room → Clauses code line lengths words room n
-unfolding numbered
-clauses code line lengths words room e =
-    record {
-      four = λ a. rw (e, a);
-      five = λ a b. rw (e, a, b);
-      two = λ l a. rw (e, l.0, l.1, a);
-      three = λ s a. rw (e, s.0.0, s.0.1, s.1, a);
-      one = λ s a. rw (e, s.0.0.0, s.0.0.1, s.0.1, s.1, a);
-      done = λ s a. rw (e, s.0.0.0, s.0.0.1, s.0.1, s.1, a);
-    }
 
 -- ---- what is refused after raster and line, or after the row
 

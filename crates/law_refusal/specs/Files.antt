@@ -5,20 +5,11 @@ use Rattle.session.specs.Session.{in_range}
 use Rattle.reader.specs.declared.Stage.{Stage}
 use Rattle.reader.specs.declared.Stage.TheVariants.{TagCount, TagBytes, OptionsCount, RasterByte, WipeByte, WordCount, LowByte, HighByte, Stopped}
 use Rattle.reader.specs.declared.Reader.{Reader}
-use Rattle.reader.specs.declared.Piece.{Piece}
-use Rattle.reader.specs.declared.Piece.TheVariants.{More, Chosen, Word, Refused}
 use Rattle.reader.specs.Reader.{counted, tag_size_ok, printable, options_size_ok, wipe_ok, word_of, word_ok}
 use Rattle.desk.specs.declared.Desk.{Desk}
 use Rattle.desk.specs.Desk.{words_at, longest}
 
 -- ---- a byte
-
--- the paper's refusal number of each case
-abbrev pub piece_refusal : Piece → ℕ
-piece_refusal More = 0
-piece_refusal (Chosen code) = 0
-piece_refusal (Word w) = 0
-piece_refusal (Refused n) = n
 
 -- one of the first three bytes of a count, or the count is as it should be
 abbrev pub count_ok : (ℕ → Bool) → Reader → ℕ → Bool

@@ -1,4 +1,3 @@
 pub mod Answers
 pub mod Rows
-pub mod Sessions
 pub mod Files

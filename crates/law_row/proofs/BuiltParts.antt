@@ -17,9 +17,6 @@ use Rattle.compose.proofs.Laying.{length-line_words_of, length-head_words, lengt
 
 -- ---- lower crates: parts, part
 
-part_at : (a b : List ℕ) (count : ℕ) → length a ≡ count → part 0 count (a ++ b) ≡ a
-part_at a b count e = take_at a b count e
-
 part-after : (a b : List ℕ) (from n count : ℕ) → length a + n ≡ from → part from count (a ++ b) ≡ part n count b
 part-after a b from n count e = rw (← e) (ap (take count) (drop-append-add a b n))
 
@@ -64,22 +61,22 @@ module _
 
     pub lines_of-stream_of : lines_of p whole ≡ line_words_of p
     unfolding stream_of
-    lines_of-stream_of = part_at (line_words_of p) _ p.places.lines (length-line_words_of p fits)
+    lines_of-stream_of = take_at (line_words_of p) _ p.places.lines (length-line_words_of p fits)
 
     pub head_of-stream_of : head_of p whole ≡ head_words p
     unfolding stream_of
-    head_of-stream_of = part_at (head_words p) _ p.places.crc (length-head_words p fits)
+    head_of-stream_of = take_at (head_words p) _ p.places.crc (length-head_words p fits)
 
     pub checks_of-stream_of : checks_of p whole ≡ crc_for p known r
     unfolding stream_of
     checks_of-stream_of =
         part-after (head_words p) _ p.places.crc 0 p.places.checks (omega (arith, length-head_words p fits))
-        ∙ part_at (crc_for p known r) _ p.places.checks (length-crc_for p fits known r)
+        ∙ take_at (crc_for p known r) _ p.places.checks (length-crc_for p fits known r)
 
     pub blanking_of-stream_of : blanking_of p whole ≡ blanking_for p blank laid
     blanking_of-stream_of =
         from_blank p.places.blank 0 p.places.blanks (omega arith)
-        ∙ part_at (blanking_for p blank laid) _ p.places.blanks (length-blanking_for p blank laid room)
+        ∙ take_at (blanking_for p blank laid) _ p.places.blanks (length-blanking_for p blank laid room)
 
     pub sav_of-stream_of : sav_of p whole ≡ trs p.codes.sav
     sav_of-stream_of = from_sav p.places.sav 0 4 (omega arith)
@@ -98,7 +95,7 @@ module _
         from_blank (8 + length laid) (length laid) n refl
         ∙ ap (part (length laid) n) (append_assoc laid (replicate n blank) (trs p.codes.sav ++ active))
         ∙ part-after laid _ (length laid) 0 n (omega arith)
-        ∙ part_at (replicate n blank) _ n (length-replicate n blank)
+        ∙ take_at (replicate n blank) _ n (length-replicate n blank)
 
 -- "Without a carry its CRC words are 200 200."
 pub checks_of_without : (p : Plan) → Fits p.places → (r blank : ℕ) (active laid : List ℕ)

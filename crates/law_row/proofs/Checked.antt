@@ -5,12 +5,12 @@ use mathlib.Core.List.{List}
 use Prim.Native.Nat.{ℕ}
 use lib.ListN.{length}
 use borrow.Author.Tests.{eq-eqb}
+use Rattle.std.specs.Prelude.{Ok}
 use Rattle.plan.specs.Plan.{plan_of}
 use Rattle.plan.specs.Refusal.{row_ok, row_refusal}
 use Rattle.plan.proofs.Plans.{plan_of-total}
 use Rattle.plan.proofs.Rows.{RowFits, row_refusal_words}
-use Rattle.row.specs.declared.Carry.{Carry}
-use Rattle.row.specs.Before.{carry_ok}
+use Rattle.row.specs.Before.{Carry, carry_ok}
 use Rattle.row.specs.Row.{carry_after, checked, check_refusal, flags_of, judged}
 
 module _ (code line : ℕ) (y c : List ℕ) (fits : RowFits code line y c) where
@@ -22,6 +22,6 @@ module _ (code line : ℕ) (y c : List ℕ) (fits : RowFits code line y c) where
 
   pub row_checked : (carry : Carry) → carry_ok carry ≡ true
       → checked code line carry y c
-      ≡ record { refusal = 0; flags = flags_of (plan_of code line) carry y c; carry = carry_after (plan_of code line) y c }
+      ≡ Ok (record { flags = flags_of (plan_of code line) carry y c; carry = carry_after (plan_of code line) y c })
   unfolding checked check_refusal judged
   row_checked carry registers = rw (row_taken, registers, fits.ok)

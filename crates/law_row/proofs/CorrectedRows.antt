@@ -15,8 +15,7 @@ use Rattle.plan.proofs.Plans.{plan_of-fits}
 use Rattle.stream.specs.declared.Faults.{Faults}
 use Rattle.stream.specs.Words.{y_blank, c_blank}
 use Rattle.stream.specs.Faults.{faults_of}
-use Rattle.row.specs.declared.Carry.{Carry}
-use Rattle.row.specs.Before.{carried}
+use Rattle.row.specs.Before.{Carry, carried}
 use Rattle.row.specs.Row.{joined, flags_of}
 use Rattle.repair.specs.Repair.{wiped_if}
 use Rattle.repair.specs.Answer.{corrected_y, corrected_c}

@@ -2,15 +2,19 @@
 use mathlib.Core.Path.{◌≡◌, refl, sym, ap, ap₂, ◌∙◌}
 use mathlib.Core.Bool.{Bool, true, not}
 use mathlib.Core.List.{List, [], ◌∷◌, ◌++◌, flat_map, map}
-use Prim.Native.Nat.{ℕ, zero, suc, ◌+◌, ◌-◌, ◌*◌, ◌≤◌, ◌<◌}
+use Prim.Native.Nat.{ℕ, ◌+◌, ◌-◌, ◌*◌, ◌≤◌, ◌<◌}
 use native.Mathlib.Omega.{arith}
 use lib.Dec.{eqb}
 use lib.ListN.{drop, length, length-drop, take}
 use lib.Seq.{length-take-le, take-append-add}
 use borrow.Author.Tests.{eq-eqb, not-false}
+use Rattle.std.specs.Prelude.{Result, Ok, Err}
 use Rattle.bits.specs.Bits.{bits, digit, parity}
 use Rattle.bits.specs.Words.{words10}
 use Rattle.bits.proofs.Words.{nine_range, tens_append, words10_cons}
+use Rattle.refusal.specs.declared.Refusal.{Refusal}
+use Rattle.refusal.specs.Refusal.{number_of, refusal_of, result_of}
+use Rattle.refusal.proofs.Answers.{refusal_of_result, result_of_err, result_of_ok}
 use Rattle.parts.specs.Parts.{end_to_end, laid, laid_unless, part, same}
 use Rattle.parts.proofs.Comparing.{any_of_map, same_refl}
 use Rattle.parts.proofs.Laid.{drop_to_laid, laid_split, length-laid, part_over_laid, unless_refused-refused}
@@ -21,12 +25,11 @@ use Rattle.plan.specs.declared.Plan.{Plan}
 use Rattle.plan.specs.Plan.{plan_of}
 use Rattle.plan.specs.Refusal.{or_refusal, row_refusal}
 use Rattle.plan.proofs.Plans.{plan_of-fits}
-use Rattle.plan.proofs.Rows.{RowFits, or_refusal_first, row_refusal_ok}
+use Rattle.plan.proofs.Rows.{RowFits, or_refusal_first, row_refusal_below, row_refusal_ok}
 use Rattle.region.specs.Ancillary.{ancillary, blanking_of}
-use Rattle.packet.specs.declared.Built.{Built}
-use Rattle.packet.specs.Build.{body_of, built, built_for, build_refusal, header_word, packet_of}
+use Rattle.packet.specs.Build.{body_of, built, build_refusal, header_word, packet_of}
 use Rattle.packet.proofs.Packets.{length-packet, packet_did, packet-marked, packet_sdid, packet_size, packet_sum_right}
-use Rattle.packet.proofs.Refusals.{lawful_of_built}
+use Rattle.packet.proofs.Refusals.{build_refusal_below, lawful_of_built}
 use Rattle.finding.specs.Find.{find_of, found, wanted}
 use Rattle.finding.proofs.Finding.{find_of-found, found_of_ancillary, found_of_laid, or_else_first}
 use Rattle.law_row.specs.Lawful.{right_packet}
@@ -127,29 +130,25 @@ module _ (code line did sdid : ℕ) (user y c : List ℕ) (packets : List (List 
 
 -- ---- the calls, one after the other
 
-built_for-number : (n : ℕ) (user : List ℕ) → (built_for n user).refusal ≡ n
-built_for-number zero user = refl
-built_for-number (suc n) user = refl
-
-built_for_none : (n : ℕ) (user : List ℕ) → (n ≡ 0 → ⊥) → (built_for n user).words ≡ 0
-built_for_none zero user bad = absurd (bad refl)
-built_for_none (suc n) user bad = refl
-
-module _ (did sdid : ℕ) (user out : List ℕ) {made : Built} (b : made ≡ built did user (length out)) where
-  pub made_number : made.refusal ≡ build_refusal did user (length out)
+module _ (did sdid : ℕ) (user out : List ℕ) {made : Result ℕ Refusal} (b : made ≡ built did user (length out)) where
+  pub made_number : refusal_of made ≡ build_refusal did user (length out)
   unfolding built
-  made_number = ap (λ r. r.refusal) b ∙ built_for-number (build_refusal did user (length out)) user
+  made_number = ap refusal_of b ∙ refusal_of_result (length user + 7) (build_refusal did user (length out)) (build_refusal_below did user (length out))
 
-  -- the first words of the output are the packet
-  pub made_packet : {out_after whole : List ℕ} → out_after ≡ laid_unless (build_refusal did user (length out)) (packet_of did sdid user) out
-      → whole ≡ part 0 made.words out_after → build_refusal did user (length out) ≡ 0 → whole ≡ packet_of did sdid user
+  -- words are written exactly where nothing is refused
+  pub made_words : {words : ℕ} → made ≡ Ok words → (build_refusal did user (length out) ≡ 0) × (words ≡ length user + 7)
   unfolding built
-  made_packet o w ok =
+  made_words done = result_of_ok (length user + 7) (build_refusal did user (length out)) (sym b ∙ done)
+
+  -- .. and the first of the output are the packet
+  pub made_packet : {words : ℕ} {out_after whole : List ℕ} → out_after ≡ laid_unless (build_refusal did user (length out)) (packet_of did sdid user) out
+      → whole ≡ part 0 words out_after → made ≡ Ok words → whole ≡ packet_of did sdid user
+  made_packet o w done =
       let p = packet_of did sdid user in
       let long = length-packet did sdid user in
-      let room = (lawful_of_built did user (length out) ok).1 in
-      let count : made.words ≡ length user + 7 = ap (λ r. r.words) b ∙ ap (λ (n : ℕ). (built_for n user).words) ok in
-      w ∙ ap₂ (part 0) count (o ∙ ap (λ (n : ℕ). laid_unless n p out) ok)
+      let told = made_words done in
+      let room = (lawful_of_built did user (length out) told.0).1 in
+      w ∙ ap₂ (part 0) told.1 (o ∙ ap (λ (n : ℕ). laid_unless n p out) told.0)
       ∙ part_over_laid 0 (length user + 7) p out (long ∙ sym (length-take-le (length user + 7) out room))
 
 module _ (code line did sdid : ℕ) (user out y c : List ℕ) where
@@ -157,39 +156,36 @@ module _ (code line did sdid : ℕ) (user out y c : List ℕ) where
   refusal = build_refusal did user (length out)
 
   -- the row is refused first
-  pub sought_refused : (n : ℕ) → n ≡ row_refusal code line y c → (n ≡ 0 → ⊥) → n ≡ or_refusal (row_refusal code line y c) refusal
-  sought_refused n e bad = e ∙ sym (or_refusal_first (row_refusal code line y c) refusal (λ z. bad (e ∙ z)))
+  pub sought_refused : {A : Type 0} (work : A) {row : Result A Refusal} {why : Refusal} → row ≡ result_of (row_refusal code line y c) work
+      → row ≡ Err why → number_of why ≡ or_refusal (row_refusal code line y c) refusal
+  sought_refused work e bad =
+      let number = row_refusal code line y c in
+      sym (ap refusal_of bad) ∙ ap refusal_of e ∙ refusal_of_result work number (row_refusal_below code line y c)
+      ∙ sym (or_refusal_first number refusal (result_of_err work number (sym e ∙ bad)).0)
 
-  module _ {made : Built} (b : made ≡ built did user (length out)) where
-    number : made.refusal ≡ refusal
-    number = made_number did sdid user out b
+  module _ {made : Result ℕ Refusal} (b : made ≡ built did user (length out)) where
+    pub sought_number : row_refusal code line y c ≡ 0 → refusal_of made ≡ or_refusal (row_refusal code line y c) refusal
+    sought_number free = made_number did sdid user out b ∙ rw free
 
-    pub sought_number : row_refusal code line y c ≡ 0 → made.refusal ≡ or_refusal (row_refusal code line y c) refusal
-    sought_number free = number ∙ rw free
+    pub sought_kept : {out_after : List ℕ} {why : Refusal} → out_after ≡ laid_unless refusal (packet_of did sdid user) out → made ≡ Err why → out_after ≡ out
+    unfolding built
+    sought_kept o bad = o ∙ unless_refused-refused refusal _ out (result_of_err (length user + 7) refusal (sym b ∙ bad)).0
 
     module _
         (at : ℕ)
+        {words : ℕ}
         {out_after whole y_after : List ℕ}
         (o : out_after ≡ laid_unless refusal (packet_of did sdid user) out)
-        (w : whole ≡ part 0 made.words out_after)
+        (w : whole ≡ part 0 words out_after)
         (l : y_after ≡ laid at whole y)
       where
-        pub sought_kept : (made.refusal ≡ 0 → ⊥) → (out_after ≡ out) × (y_after ≡ y)
-        unfolding built laid
-        sought_kept bad =
-            let some : refusal ≡ 0 → ⊥ = λ z. bad (number ∙ z) in
-            let none : made.words ≡ 0 = ap (λ r. r.words) b ∙ built_for_none refusal user some in
-            let empty : whole ≡ [] = w ∙ ap (λ (n : ℕ). part 0 n out_after) none in
-            (o ∙ unless_refused-refused refusal _ out some, l ∙ ap (λ (ws : List ℕ). laid at ws y) empty)
-
         pub sought_found : {there : List ℕ} {alike : Bool} → there ≡ find_of code line did sdid y_after c → alike ≡ same there whole
-            → did < 256 → sdid < 256 → row_refusal code line y c ≡ 0 → made.refusal ≡ 0
+            → did < 256 → sdid < 256 → row_refusal code line y c ≡ 0 → made ≡ Ok words
             → (packets : List (List ℕ)) → PlaceAfter code line did sdid user y at packets → alike ≡ true
-        sought_found f a d s free none packets placed =
+        sought_found f a d s free done packets placed =
             let p = packet_of did sdid user in
-            let ok : refusal ≡ 0 = sym number ∙ none in
-            let e = made_packet did sdid user out b o w ok in
-            let lawful = (lawful_of_built did user (length out) ok).0 in
+            let e = made_packet did sdid user out b o w done in
+            let lawful = (lawful_of_built did user (length out) (made_words did sdid user out b done).0).0 in
             let there_is = packet-found code line did sdid user y c packets (row_refusal_ok code line y c free) lawful.few d s at placed lawful.words in
             let same_there = f ∙ ap (λ (l : List ℕ). find_of code line did sdid l c) (l ∙ ap (λ (ws : List ℕ). laid at ws y) e) ∙ there_is in
             a ∙ ap₂ same same_there e ∙ same_refl p

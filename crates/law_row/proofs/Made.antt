@@ -8,7 +8,7 @@ use native.Mathlib.Decide.{dec_le}
 use lib.ListN.{length, replicate}
 use Rattle.bits.specs.Words.{words10}
 use Rattle.bits.proofs.Words.{tens_append, tens_blanks, tens_take, words10_cons}
-use Rattle.crc.specs.Crc.{cr_words}
+use Rattle.crc.specs.Crc.{words_given}
 use Rattle.crc.proofs.Words.{cr_range, cr_words-done, cr_words_register}
 use Rattle.raster.specs.Lines.{line_refusal}
 use Rattle.timing.proofs.Codes.{xyz_range}
@@ -54,7 +54,7 @@ tens_trs xyz h = words10_cons xyz [] h refl
 tens_checks : (p : Plan) (r : ℕ) → words10 (check_words p r) ≡ true
 tens_checks p r = tens_take p.places.checks _ (go (dec_le r 0x3ffff))
   where
-    go : Dec (r ≤ 0x3ffff) → words10 ((cr_words r).cr0 ∷ (cr_words r).cr1 ∷ []) ≡ true
+    go : Dec (r ≤ 0x3ffff) → words10 ((words_given r).cr0 ∷ (words_given r).cr1 ∷ []) ≡ true
     go (yes h) = rw (cr_words-done r h) (tens_two _ _ (omega (arith, cr_range r)) (omega (arith, cr_range r)))
     go (no h) = let past = cr_words_register r (omega arith) in rw past (tens_two 0 0 (omega arith) (omega arith))
 

@@ -22,8 +22,7 @@ use Rattle.plan.specs.Plan.{plan_of}
 use Rattle.plan.proofs.Plans.{Plain, plan_of-fits, plan_of_plain}
 use Rattle.region.specs.Ancillary.{ancillary}
 use Rattle.stream.specs.Words.{y_blank, c_blank, trs, line_words_of, head_words, check_words, eav_of, lines_of, head_of, checks_of, sav_of}
-use Rattle.row.specs.declared.Carry.{Carry}
-use Rattle.row.specs.Before.{carried}
+use Rattle.row.specs.Before.{Carry, carried}
 use Rattle.row.specs.Row.{check_refusal}
 use Rattle.row.proofs.Rows.{carried_ok}
 use Rattle.repair.specs.Repair.{wiped_if, put_right}

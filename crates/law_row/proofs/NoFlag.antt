@@ -20,8 +20,7 @@ use Rattle.region.specs.Ancillary.{ancillary}
 use Rattle.stream.specs.declared.Faults.{Faults}
 use Rattle.stream.specs.Words.{y_blank, c_blank, checks_of, check_words, covered_by}
 use Rattle.stream.specs.Faults.{differ, faults_of}
-use Rattle.row.specs.declared.Carry.{Carry}
-use Rattle.row.specs.Before.{carried}
+use Rattle.row.specs.Before.{Carry, carried}
 use Rattle.row.specs.Row.{joined, flags_of}
 use Rattle.compose.specs.Compose.{stream_of, y_stream, c_stream, lengths_ok}
 use Rattle.compose.proofs.Refusal.{lengths_of}

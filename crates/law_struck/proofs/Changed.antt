@@ -8,7 +8,7 @@ use lib.ListN.{length, take, drop, length-append}
 use lib.Seq.{take_at, take-take}
 use Rattle.bits.specs.Bits.{odd}
 use Rattle.bits.proofs.Choice.{false_not_true}
-use Rattle.raster.specs.Table.{raster_ok, looked_up, total_of}
+use Rattle.raster.specs.Table.{raster_ok, raster_given, total_of}
 use Rattle.raster.proofs.Table.{looked_up_range}
 use Rattle.cable.specs.Bits.{past}
 use Rattle.cable.specs.Words.{start_history}
@@ -48,7 +48,7 @@ module _ (code : ℕ) (raster : raster_ok code ≡ true) (before one two after a
     (long_one : length one ≡ 20 * total_of code) (long_two : length two ≡ 20 * total_of code)
     (opens : (after_bits code before).state.sight.place ≡ opened)
     (equal : length m ≡ length n)
-    (start : length before + 20 * (total_of code - (looked_up code).raster.layout.active) ≤ 80 + length a) where
+    (start : length before + 20 * (total_of code - (raster_given code).layout.active) ≤ 80 + length a) where
   length_first : length (data_of (a ++ (m ++ z))) ≡ length before + 40 * total_of code + length after
   length_first = ap length stream ∙ simp length-append (omega arith)
 

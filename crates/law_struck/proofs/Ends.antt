@@ -11,7 +11,7 @@ use Rattle.parts.specs.Parts.{part}
 use Rattle.recogniser.specs.declared.Window.{Window}
 use Rattle.recogniser.specs.declared.Place.{Place}
 use Rattle.recogniser.specs.declared.Event.{Event}
-use Rattle.recogniser.specs.declared.Event.TheVariants.{Outside, Within, Pair, Opens, Whole, Early, Late, Astray}
+use Rattle.recogniser.specs.declared.Event.TheVariants.{Outside, Within, Pair, Opens, Whole}
 use Rattle.recogniser.specs.Sight.{window_after}
 use Rattle.recogniser.specs.Event.{event_of, place, opened, place_after, looked}
 use Rattle.judging.specs.declared.Track.{Track}
@@ -48,14 +48,8 @@ module _ (total : ℕ) {bs : List Bool} (w : Window) (p : Place) {y c : List ℕ
   moves Pair code t ys cs (pair some full k) l n =
       record { quiet = refl; track = refl; still = λ z. omega arith; more = omega (arith, r.small) }
   moves Opens code t ys cs (opens z one) l n = absurd (omega (arith, r.low))
-  moves Whole code t ys cs (whole one k) l n = absurd (go r.due)
-    where
-      go : (w.ahead ≡ 0) ⊎ (w.ahead + p.bit ≡ 20) → ⊥
-      go (inl z) = omega arith
-      go (inr d) = omega arith
-  moves Early code t ys cs k l n = absurd (false_not_true (sym n))
-  moves Late code t ys cs k l n = absurd (false_not_true (sym n))
-  moves Astray code t ys cs k l n = absurd (false_not_true (sym n))
+  moves Whole code t ys cs (whole one k) l n = absurd (omega (arith, r.due))
+  moves _ code t ys cs k l n = absurd (false_not_true (sym n))
 
   -- at the last bit only the EAV is left
   completes : (e : Event) (code : ℕ) (t : Track) (ys cs : List ℕ) → Cause total w.ahead p last e → p ≡ final total
@@ -66,9 +60,7 @@ module _ (total : ℕ) {bs : List Bool} (w : Window) (p : Place) {y c : List ℕ
   completes Pair code t ys cs (pair some full k) l n = absurd (omega (arith, ap (λ (q : Place). q.pairs) l))
   completes Opens code t ys cs (opens z one) l n = absurd (omega (arith, r.low))
   completes Whole code t ys cs k l n = refl
-  completes Early code t ys cs k l n = absurd (false_not_true (sym n))
-  completes Late code t ys cs k l n = absurd (false_not_true (sym n))
-  completes Astray code t ys cs k l n = absurd (false_not_true (sym n))
+  completes _ code t ys cs k l n = absurd (false_not_true (sym n))
 
 -- ---- the bits of a row
 

@@ -7,16 +7,15 @@ use native.Mathlib.Omega.{arith}
 use native.Mathlib.Decide.{ℕ_discrete}
 use lib.ListN.{length, take, get_or}
 use lib.Seq.{get_or-take}
+use Rattle.std.specs.Prelude.{None}
 use Rattle.bits.proofs.Choice.{false_not_true}
 use Rattle.raster.specs.Table.{raster_ok, total_of}
 use Rattle.raster.specs.Lines.{line_refusal}
 use Rattle.raster.proofs.Table.{looked_up_range}
-use Rattle.timing.specs.Line.{line_read}
+use Rattle.timing.specs.Line.{line_read, line_told}
 use Rattle.plan.specs.Plan.{plan_of}
-use Rattle.row.specs.declared.Carry.{Carry}
-use Rattle.row.specs.declared.Carry.TheVariants.{Nothing}
+use Rattle.row.specs.Before.{Carry, carried}
 use Rattle.row.specs.declared.Judged.{Judged}
-use Rattle.row.specs.Before.{carried}
 use Rattle.row.specs.Row.{judged}
 use Rattle.row.proofs.Rows.{judged_by-refused}
 use Rattle.law_burst.specs.Stretch.{channel_words}
@@ -30,13 +29,13 @@ use Rattle.law_struck.proofs.Second.{row_line}
 -- ---- a row whose CRC could be judged
 
 module _ (code : ℕ) where
-  no_carry : (line : ℕ) (carry : Carry) (y c : List ℕ) → (line_refusal code line ≡ 0 → ⊥) → (completed code line carry y c).track.carry ≡ Nothing
+  no_carry : (line : ℕ) (carry : Carry) (y c : List ℕ) → (line_refusal code line ≡ 0 → ⊥) → (completed code line carry y c).track.carry ≡ None
   unfolding judged
   no_carry zero carry y c bad = refl
   no_carry (suc n) carry y c bad = ap (λ (j : Judged). j.carry) (judged_by-refused (line_refusal code (suc n)) (plan_of code (suc n)) carry y c bad)
 
-  not_known : (line : ℕ) (carry : Carry) (y c : List ℕ) (l f : ℕ) → carry ≡ Nothing → happenings (completed code line carry y c).happening ≡ RowJudged l f true ∷ [] → ⊥
-  not_known zero carry y c l f e h = let z : ◌≡◌ {A = ℕ} 0 1 = cc in omega arith
+  not_known : (line : ℕ) (carry : Carry) (y c : List ℕ) (l f : ℕ) → carry ≡ None → happenings (completed code line carry y c).happening ≡ RowJudged l f true ∷ [] → ⊥
+  not_known zero carry y c l f e h = cc
   not_known (suc n) carry y c l f e h =
       let k : (carried carry).known ≡ true = cc in
       false_not_true (sym (ap (λ (d : Carry). (carried d).known) e) ∙ k)
@@ -56,7 +55,7 @@ module _ (code : ℕ) where
 -- ---- rows with the same first six pairs
 
 line_of-same : (code n : ℕ) (y z : List ℕ) → get_or y 4 0 ≡ get_or z 4 0 → get_or y 5 0 ≡ get_or z 5 0 → line_of code n y ≡ line_of code n z
-line_of-same code zero y z e f = ap₂ (λ (v w : ℕ). (line_read code v w).line) e f
+line_of-same code zero y z e f = ap₂ (λ (v w : ℕ). line_told (line_read code v w)) e f
 line_of-same code (suc n) y z e f = refl
 
 module _ (code : ℕ) (raster : raster_ok code ≡ true) (one other : List Bool) (size : length one ≡ 20 * total_of code) (length_other : length other ≡ 20 * total_of code)

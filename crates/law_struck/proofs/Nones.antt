@@ -43,9 +43,7 @@ pub not_dropped : (h : Happening) → None is_dropped (happenings h) → is_drop
 not_dropped Quiet n = refl
 not_dropped (RowJudged line flags known) n = refl
 not_dropped Unnumbered n = refl
-not_dropped DroppedEarly n = none_of_one is_dropped DroppedEarly n
-not_dropped DroppedLate n = none_of_one is_dropped DroppedLate n
-not_dropped DroppedAstray n = none_of_one is_dropped DroppedAstray n
+not_dropped h n = none_of_one is_dropped h n
 
 -- ---- a dropped row is a fault
 
@@ -53,9 +51,7 @@ dropped_fault : (h : Happening) → is_fault h ≡ false → is_dropped h ≡ fa
 dropped_fault Quiet e = refl
 dropped_fault (RowJudged line flags known) e = refl
 dropped_fault Unnumbered e = refl
-dropped_fault DroppedEarly e = e
-dropped_fault DroppedLate e = e
-dropped_fault DroppedAstray e = e
+dropped_fault _ e = e
 
 pub none_dropped : (hs : List Happening) → None is_fault hs → None is_dropped hs
 unfolding any

@@ -20,7 +20,7 @@ use Rattle.law_burst.specs.Stretch.{channel_words}
 use Rattle.recogniser.specs.declared.Window.{Window}
 use Rattle.recogniser.specs.declared.Place.{Place}
 use Rattle.recogniser.specs.declared.Event.{Event}
-use Rattle.recogniser.specs.declared.Event.TheVariants.{Outside, Within, Pair, Opens, Whole, Early, Late, Astray}
+use Rattle.recogniser.specs.declared.Event.TheVariants.{Within, Pair, Opens, Whole, Early}
 use Rattle.recogniser.specs.Sight.{is_sync, y_word, c_word, ahead_after, window_after}
 use Rattle.recogniser.specs.Event.{event_of, place, opened, place_after, looked}
 use Rattle.recogniser.proofs.Windows.{last_of, c_word_last_of, y_word_last_of, Awaited, Tied, tied_start, tied_after}
@@ -76,8 +76,7 @@ module _ (total : ℕ) (enough : 4 ≤ total) (bs : List Bool) (w : Window) (b :
     where
       go : (sync : Bool) → (w.ahead ≡ 0) ⊎ (w.ahead ≡ 1) → (ahead_after w.ahead sync ≡ 0) ⊎ (ahead_after w.ahead sync + 0 ≡ 20)
       go true d = inr refl
-      go false (inl z) = inl (omega arith)
-      go false (inr o) = inl (omega arith)
+      go false d = inl (omega arith)
 
   -- ---- a row opens
 
@@ -242,7 +241,6 @@ module _ (total : ℕ) (enough : 4 ≤ total) (bs : List Bool) (w : Window) (b :
           → ((place_after e p).pairs ≡ 0)
           ⊎ OpenRow total (bs ++ (b ∷ [])) (window_after b w) (place_after e p) (listed e total p.pairs (y_word (window_after b w).last) y)
           (listed e total p.pairs (c_word (window_after b w).last) c)
-      go Outside cause r = inl refl
       go Within (within some l s) (inl z) = absurd (some z)
       go Within (within some l s) (inr r) = inr (row_within p y c r l s)
       go Pair (pair some full l) (inl z) = absurd (some z)
@@ -250,8 +248,7 @@ module _ (total : ℕ) (enough : 4 ≤ total) (bs : List Bool) (w : Window) (b :
       go Opens (opens none one) r = inr (row_opens one)
       go Whole (whole one l) r = inr (row_opens one)
       go Early (early one) r = inr (row_opens one)
-      go Late cause r = inl refl
-      go Astray cause r = inl refl
+      go _ cause r = inl refl
 
 -- ---- after all bits
 

@@ -6,7 +6,7 @@ use Prim.Native.Nat.{ℕ, ◌-◌, ◌*◌, ◌≤◌}
 use native.Mathlib.Omega.{arith}
 use lib.ListN.{length, take, drop, length-take, length-drop, take-append-drop}
 use lib.Seq.{take_at, drop_at, take_all}
-use Rattle.raster.specs.Table.{raster_ok, looked_up, total_of}
+use Rattle.raster.specs.Table.{raster_ok, raster_given, total_of}
 use Rattle.raster.specs.Lines.{line_refusal}
 use Rattle.raster.proofs.Table.{looked_up_range}
 use Rattle.raster.proofs.Lines.{line_refusal_ok, line_ok_range}
@@ -14,7 +14,7 @@ use Rattle.crc.specs.Crc.{crc_start, crc_words}
 use Rattle.plan.specs.Plan.{plan_of}
 use Rattle.plan.proofs.Plans.{plan_of-found}
 use Rattle.stream.specs.Words.{register_after}
-use Rattle.row.specs.declared.Carry.{Carry}
+use Rattle.row.specs.Before.{Carry}
 use Rattle.row.specs.Row.{flags_of, carry_after, judged}
 use Rattle.law_burst.specs.Stretch.{channel_words, flags_in}
 use Rattle.judging.specs.declared.Track.{Track}
@@ -39,7 +39,7 @@ line_some code line ok z =
 -- ---- a row's active bits
 
 abbrev active_in : ℕ → ℕ
-active_in code = (looked_up code).raster.layout.active
+active_in code = (raster_given code).layout.active
 
 -- a row's bits from its first active word on
 abbrev pub active_bits : ℕ → List Bool → List Bool

@@ -5,7 +5,7 @@ use mathlib.Core.List.{List, ◌++◌}
 use Prim.Native.Nat.{ℕ, ◌+◌, ◌*◌, ◌≤◌, ◌-◌}
 use native.Mathlib.Omega.{arith}
 use lib.ListN.{length, take, drop, length-append, length-take, length-drop}
-use Rattle.raster.specs.Table.{looked_up, total_of}
+use Rattle.raster.specs.Table.{raster_given, total_of}
 use Rattle.raster.specs.Lines.{line_refusal}
 use Rattle.cable.specs.Bits.{unscrambled, past}
 use Rattle.cable.specs.Words.{start_history}
@@ -24,7 +24,7 @@ data_of cable = unscrambled (past start_history) cable
 module _ (code line : ℕ) (ok : line_refusal code line ≡ 0) (at : ℕ) (a m n z : List Bool) (equal : length m ≡ length n) where
   pub burst_in_stretch : length m ≤ 18 → (m ≡ n → ⊥)
       → stretch_start code at ≤ length a
-      → length a + length m + 10 ≤ stretch_start code at + 20 * ((looked_up code).raster.layout.active + 6)
+      → length a + length m + 10 ≤ stretch_start code at + 20 * ((raster_given code).layout.active + 6)
       → 6 ≤ total_of code
       → stretch_start code at + stretch_size code ≤ length (a ++ (m ++ z))
       → crc_flagged (flags_in (plan_of code line) (bits_at (stretch_start code at) (stretch_size code) (data_of (a ++ (m ++ z))))) ≡ false

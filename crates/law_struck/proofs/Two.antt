@@ -5,7 +5,7 @@ use mathlib.Core.List.{List, [], ◌∷◌, ◌++◌, append_assoc}
 use Prim.Native.Nat.{ℕ, ◌+◌, ◌-◌, ◌*◌, ◌≤◌}
 use native.Mathlib.Omega.{arith}
 use lib.ListN.{length, drop, length-append}
-use Rattle.raster.specs.Table.{raster_ok, looked_up, total_of}
+use Rattle.raster.specs.Table.{raster_ok, raster_given, total_of}
 use Rattle.raster.specs.Lines.{line_refusal}
 use Rattle.raster.proofs.Table.{looked_up_range}
 use Rattle.plan.specs.Plan.{plan_of}
@@ -34,17 +34,17 @@ abbrev pub row_next_to : ℕ → ℕ → List Bool → List Bool
 row_next_to code at bs = bits_at (at - 80 + 20 * total_of code) (20 * total_of code) bs
 
 abbrev pub stretch_start : ℕ → ℕ → ℕ
-stretch_start code at = at - 80 + 20 * (total_of code - (looked_up code).raster.layout.active)
+stretch_start code at = at - 80 + 20 * (total_of code - (raster_given code).layout.active)
 
 abbrev pub stretch_size : ℕ → ℕ
-stretch_size code = 20 * ((looked_up code).raster.layout.active + total_of code)
+stretch_size code = 20 * ((raster_given code).layout.active + total_of code)
 
 module _ (code : ℕ) (raster : raster_ok code ≡ true) where
   stretch_rows : (at : ℕ) (bs : List Bool) → at + 20 * total_of code ≤ length bs
       → active_bits code (first_row code at bs) ++ row_next_to code at bs ≡ bits_at (stretch_start code at) (stretch_size code) bs
   stretch_rows at bs long =
       let total = total_of code in
-      let active = (looked_up code).raster.layout.active in
+      let active = (raster_given code).layout.active in
       let fits = (looked_up_range code raster).active_fits in
       let whole : 20 * total ≡ 20 * (total - active) + 20 * active = omega arith in
       let place : at - 80 + 20 * total ≡ stretch_start code at + 20 * active = omega arith in

@@ -2,7 +2,7 @@
 -- code, made one, or moved the alignment.
 use Rattle.std.specs.Prelude.{◌≡◌, Bool, true, false, List, [], ◌∷◌, ◌++◌, ℕ, ◌+◌, ◌-◌, ◌*◌, ◌≤◌, length}
 use Rattle.bits.specs.Bits.{word_bits}
-use Rattle.raster.specs.Table.{meant, raster_ok, looked_up, total_of}
+use Rattle.raster.specs.Table.{meant, raster_ok, raster_given, total_of}
 use Rattle.recogniser.specs.Event.{opened}
 use Rattle.judging.specs.declared.Happening.{Happening}
 use Rattle.judging.specs.declared.Happening.TheVariants.{RowJudged}
@@ -44,6 +44,6 @@ StruckFails =
     → length m ≡ length n
     → length m ≤ 18
     → (m ≡ n → ⊥)
-    → length before + 20 * (total_of (meant code) - (looked_up (meant code)).raster.layout.active) ≤ 80 + length a
+    → length before + 20 * (total_of (meant code) - (raster_given (meant code)).layout.active) ≤ 80 + length a
     → 80 + length a + length m + 10 ≤ length before + 20 * (total_of (meant code) + 6)
     → (module_of code vs).verdict ≡ Fail

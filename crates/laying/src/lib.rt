@@ -23,20 +23,17 @@ fn lay_eav(xyz: u16, buffer: &mut [u16])
 }
 
 // What an event writes where the pair that ended has this word and this place in the open row.
+#[tactic(auto, unfolding(crate::specs::Laying::laid_by))]
 pub fn lay_event(event: Event, total: u32, at: usize, word: u16, buffer: &mut [u16])
     ensures { buffer.new ≡ laid_by event total at word buffer.old }
 {
     match event {
-        Event::Outside => {}
-        Event::Within => {}
         Event::Pair => lay_pair(total, at, word, buffer),
-        Event::Opens => lay_eav(word, buffer),
-        Event::Whole => lay_eav(word, buffer),
+        Event::Opens | Event::Whole => lay_eav(word, buffer),
         Event::Early => {
             lay_pair(total, at, word, buffer);
             lay_eav(word, buffer);
         }
-        Event::Late => {}
-        Event::Astray => {}
+        Event::Outside | Event::Within | Event::Late | Event::Astray => {}
     }
 }

@@ -17,14 +17,14 @@ use Rattle.packet.specs.Build.{header_word, body_of, packet_of}
 use Rattle.packet.proofs.Words.{header_low}
 
 module _ (did sdid : ℕ) (user : List ℕ) where
-  -- ---- laid in three steps
+  -- ---- laid in four steps
 
   pub packet-laid : (out : List ℕ) → laid 0 (packet_of did sdid user) out
-      ≡ set (laid 6 user (laid 0 (0x000 ∷ 0x3ff ∷ 0x3ff ∷ header_word did ∷ header_word sdid ∷ header_word (length user) ∷ []) out)) (length user + 6)
-      (checksum_of (body_of did sdid user))
+      ≡ set (laid 6 user (laid 3 (header_word did ∷ header_word sdid ∷ header_word (length user) ∷ []) (laid 0 (0x000 ∷ 0x3ff ∷ 0x3ff ∷ []) out)))
+      (length user + 6) (checksum_of (body_of did sdid user))
   unfolding packet_of laid
   packet-laid out =
-      let headed = laid 0 (0x000 ∷ 0x3ff ∷ 0x3ff ∷ header_word did ∷ header_word sdid ∷ header_word (length user) ∷ []) out in
+      let headed = laid 3 (header_word did ∷ header_word sdid ∷ header_word (length user) ∷ []) (laid 0 (0x000 ∷ 0x3ff ∷ 0x3ff ∷ []) out) in
       let end : 6 + length user ≡ length user + 6 = omega arith in
       laid_of_append 6 user (checksum_of (body_of did sdid user) ∷ []) headed
       ∙ ap (λ (n : ℕ). set (laid 6 user headed) n (checksum_of (body_of did sdid user))) end

@@ -1,11 +1,12 @@
 -- Building a packet.
-use Rattle.std.specs.Prelude.{Bool, not, ◌&&◌, List, [], ◌∷◌, ◌++◌, ℕ, zero, suc, ◌+◌, ◌*◌, leb, eqb, length}
+use Rattle.std.specs.Prelude.{Bool, not, ◌&&◌, List, [], ◌∷◌, ◌++◌, Result, ℕ, ◌+◌, ◌*◌, leb, eqb, length}
 use Rattle.bits.specs.Choice.{if}
 use Rattle.bits.specs.Bits.{digit, bits, parity}
 use Rattle.bits.specs.Words.{words10, reserved_code, nine_of}
+use Rattle.refusal.specs.declared.Refusal.{Refusal}
+use Rattle.refusal.specs.Refusal.{result_of}
 use Rattle.parts.specs.Parts.{any}
 use Rattle.scan.specs.Packet.{marker, checksum_of}
-use Rattle.packet.specs.declared.Built.{Built}
 
 -- "DID, SDID and DC carry a byte, bit 8 making the ones in bits 8..0 even, bit 9 its inverse."
 unfoldable pub header_word : ℕ → ℕ
@@ -28,10 +29,6 @@ unfoldable pub build_refusal : ℕ → List ℕ → ℕ → ℕ
 build_refusal did user room =
     if (words10 user) (if (buildable did user) (if (leb (length user + 7) room) 0 1) 6) 3
 
--- how many words were written, or the refusal's number with zero
-abbrev pub built_for : ℕ → List ℕ → Built
-built_for zero user = record { refusal = 0; words = length user + 7 }
-built_for (suc n) user = record { refusal = suc n; words = 0 }
-
-unfoldable pub built : ℕ → List ℕ → ℕ → Built
-built did user room = built_for (build_refusal did user room) user
+-- how many words were written
+unfoldable pub built : ℕ → List ℕ → ℕ → Result ℕ Refusal
+built did user room = result_of (build_refusal did user room) (length user + 7)

@@ -1,14 +1,13 @@
--- Laws of same and any: a turn of a loop, its stop and its end.
-use mathlib.Core.Path.{◌≡◌, refl, ap}
-use mathlib.Core.Bool.{Bool, true, false, ◌||◌, or_assoc, or-false}
+-- Laws of same and any.
+use mathlib.Core.Path.{◌≡◌, refl, sym, ap, ◌∙◌}
+use mathlib.Core.Bool.{Bool, true, false, ◌&&◌, ◌||◌, or_assoc, or-false}
 use mathlib.Core.List.{List, [], ◌∷◌, ◌++◌, map}
-use Prim.Native.Nat.{ℕ, zero, suc, ◌+◌, ◌≤◌, ◌<◌}
-use native.Mathlib.Omega.{arith}
-use native.Mathlib.Numerals.{add-one}
+use Prim.Native.Nat.{ℕ, zero, suc}
 use lib.Dec.{eqb}
-use lib.ListN.{length, get_or, drop, replicate, drop_of_length-le}
-use lib.Seq.{drop-cons, drop-length}
-use borrow.Author.Tests.{eq-eqb, ne_eqb, eqb-true}
+use lib.ListN.{replicate}
+use borrow.Author.Tests.{eq-eqb, eqb-true}
+use Rattle.std.specs.Cmp.Lexicographic.{pointwise}
+use Rattle.std.specs.List.{fold, list_any}
 use Rattle.bits.specs.Choice.{if}
 use Rattle.bits.proofs.Choice.{false_not_true, if_true, or_none}
 use Rattle.bits.proofs.Lists.{cons_equal}
@@ -16,30 +15,15 @@ use Rattle.parts.specs.Parts.{same, any}
 
 -- ---- same
 
-pub same_step : (i : ℕ) (vs ws : List ℕ) → i < length vs → i < length ws → get_or vs i 0 ≡ get_or ws i 0
-    → same (drop i vs) (drop i ws) ≡ same (drop (i + 1) vs) (drop (i + 1) ws)
+-- the library's equality of slices
+pub pointwise-same : (vs ws : List ℕ) → pointwise eqb vs ws ≡ same vs ws
 unfolding same
-same_step i vs ws h k e = rw (add-one, drop-cons vs i 0, drop-cons ws i 0, eq-eqb (get_or vs i 0) (get_or ws i 0) e)
-
-pub same_stop : (i : ℕ) (vs ws : List ℕ) → i < length vs → i < length ws → (get_or vs i 0 ≡ get_or ws i 0 → ⊥) → same (drop i vs) (drop i ws) ≡ false
-unfolding same
-same_stop i vs ws h k e = rw (drop-cons vs i 0, drop-cons ws i 0, ne_eqb (get_or vs i 0) (get_or ws i 0) e)
-
-pub same_end : (i : ℕ) (vs ws : List ℕ) → i ≡ length vs → i ≡ length ws → same (drop i vs) (drop i ws) ≡ true
-unfolding same
-same_end i vs ws e f =
-    let v : length vs ≤ i = omega arith in
-    let w : length ws ≤ i = omega arith in
-    rw (drop_of_length-le vs v, drop_of_length-le ws w)
-
-pub same_length : (vs ws : List ℕ) → (length vs ≡ length ws → ⊥) → same vs ws ≡ false
-unfolding same
-same_length [] [] h = absurd (h refl)
-same_length [] (w ∷ ws) h = refl
-same_length (v ∷ vs) [] h = refl
-same_length (v ∷ vs) (w ∷ ws) h = go (eqb v w) (same_length vs ws (λ e. h (ap suc e)))
+pointwise-same [] [] = refl
+pointwise-same [] (w ∷ ws) = refl
+pointwise-same (v ∷ vs) [] = refl
+pointwise-same (v ∷ vs) (w ∷ ws) = go (eqb v w) (pointwise-same vs ws)
   where
-    go : (b : Bool) → same vs ws ≡ false → if b (same vs ws) false ≡ false
+    go : (b : Bool) → pointwise eqb vs ws ≡ same vs ws → (b && pointwise eqb vs ws) ≡ if b (same vs ws) false
     go true e = e
     go false e = refl
 
@@ -59,27 +43,16 @@ same_true (v ∷ vs) (w ∷ ws) e =
 
 -- ---- any
 
-module _ {A : Type 0} (p : A → Bool) (d : A) where
-  pub any_step : (i : ℕ) (xs : List A) → i < length xs → p (get_or xs i d) ≡ false → any p (drop i xs) ≡ any p (drop (i + 1) xs)
-  unfolding any
-  any_step i xs h e = rw (add-one, drop-cons xs i d, e)
-
-  pub any_stop : (i : ℕ) (xs : List A) → i < length xs → p (get_or xs i d) ≡ true → any p (drop i xs) ≡ true
-  unfolding any
-  any_stop i xs h e = rw (drop-cons xs i d, e)
-
-  -- a step of a loop that looks at every one
-  pub any-found_step : (found : Bool) (i : ℕ) (xs : List A) → i < length xs
-      → (found || p (get_or xs i d) || any p (drop (i + 1) xs)) ≡ (found || any p (drop i xs))
-  unfolding any
-  any-found_step found i xs h = rw (add-one, drop-cons xs i d) (or_assoc found (p (get_or xs i d)) (any p (drop (suc i) xs)))
-
-pub any_end : {A : Type 0} (p : A → Bool) (i : ℕ) (xs : List A) → i ≡ length xs → any p (drop i xs) ≡ false
+-- the library's `any`, and its fold with no early return
+pub list_any-any : {A : Type 0} (p : A → Bool) (xs : List A) → list_any p xs ≡ any p xs
 unfolding any
-any_end p i xs e = rw (e, drop-length)
+list_any-any p [] = refl
+list_any-any p (x ∷ xs) = ap (λ (b : Bool). p x || b) (list_any-any p xs)
 
-pub any-found_end : {A : Type 0} (p : A → Bool) (found : Bool) (i : ℕ) (xs : List A) → i ≡ length xs → (found || any p (drop i xs)) ≡ found
-any-found_end p found i xs e = rw (any_end p i xs e, or-false)
+pub any_fold : {A : Type 0} (p : A → Bool) (found : Bool) (xs : List A) → fold (λ b x. b || p x) found xs ≡ (found || any p xs)
+unfolding any
+any_fold p found [] = sym (or-false found)
+any_fold p found (x ∷ xs) = any_fold p (found || p x) xs ∙ or_assoc found (p x) (any p xs)
 
 pub any_of_append : {A : Type 0} (p : A → Bool) (xs ys : List A) → any p (xs ++ ys) ≡ (any p xs || any p ys)
 unfolding any

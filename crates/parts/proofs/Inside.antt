@@ -1,36 +1,40 @@
--- Laws of part and in_part: a part past the end or up to it, and a change that keeps the part's length, which is the change laid over it.
-use mathlib.Core.Path.{◌≡◌, sym, ap, ap₂, ◌∙◌}
+-- Laws of part and in_part: where a part stands, and a change that keeps the part's length, which is the change laid over it.
+use mathlib.Core.Path.{◌≡◌, sym, ap, ◌∙◌}
 use mathlib.Core.List.{List, [], ◌∷◌, ◌++◌}
-use Prim.Native.Nat.{ℕ, zero, suc, ◌+◌, ◌-◌, ◌≤◌}
+use Prim.Native.Nat.{ℕ, zero, suc, ◌+◌, ◌-◌, ◌≤◌, min}
 use native.Mathlib.Omega.{arith}
-use lib.ListN.{length, take, drop, length-take, length-drop, drop_of_length-le}
-use lib.Seq.{take_all, take-nil, drop-nil}
+use lib.ListN.{length, take, drop, length-take, length-drop}
+use lib.Seq.{drop-nil, drop-drop}
+use borrow.Rule.Slice.PartMut.{put_mid}
+use Rattle.std.proofs.lemmas.List.{take_min, drop_min}
 use Rattle.parts.specs.Parts.{part, in_part, laid}
-use Rattle.parts.proofs.Laid.{laid-past, length-laid, laid_cons, laid_front, part_before_laid, part-after-laid, part_over_laid}
+use Rattle.parts.proofs.Laid.{length-laid, laid_cons, laid_front, part_before_laid, part-after-laid, part_over_laid}
 
 -- ---- part
-
-pub part-past : (from count : ℕ) (ws : List ℕ) → length ws ≤ from → part from count ws ≡ []
-part-past from count ws h = ap (take count) (drop_of_length-le ws h) ∙ take-nil count
-
-pub part_to_end : (from count : ℕ) (ws : List ℕ) → length ws - from ≤ count → part from (length ws - from) ws ≡ part from count ws
-part_to_end from count ws h =
-    let rest = drop from ws in
-    take_all (length ws - from) rest (omega (arith, length-drop from ws)) ∙ sym (take_all count rest (omega (arith, length-drop from ws)))
 
 pub length_part : (from count : ℕ) (ws : List ℕ) → from + count ≤ length ws → length (part from count ws) ≡ count
 length_part from count ws h = simp (length-take, length-drop) (omega arith)
 
--- ---- in_part
+-- ---- the places of a part
 
-pub in_part_to_end : (from count : ℕ) (f : List ℕ → List ℕ) (ws : List ℕ) → length ws - from ≤ count
-    → in_part from (length ws - from) f ws ≡ in_part from count f ws
-unfolding in_part
-in_part_to_end from count f ws h =
-    let short : length (drop from ws) ≤ length ws - from = omega (arith, length-drop from ws) in
-    let past : length (drop from ws) ≤ count = omega (arith, length-drop from ws) in
-    ap₂ (λ (p rest : List ℕ). take from ws ++ (f p ++ rest)) (part_to_end from count ws h)
-    (drop_of_length-le (drop from ws) short ∙ sym (drop_of_length-le (drop from ws) past))
+module _ (from count : ℕ) (ws : List ℕ) {start end : ℕ} (s : start ≡ min from (length ws)) (e : end ≡ min (from + count) (length ws)) where
+  rest_from : drop start ws ≡ drop from ws
+  rest_from = rw s (drop_min from ws)
+
+  rest-after : drop (end - start) (drop start ws) ≡ drop count (drop from ws)
+  rest-after =
+      let on : start + (end - start) ≡ end = omega arith in
+      drop-drop (end - start) start ws ∙ rw (on, e) (drop_min (from + count) ws) ∙ sym (drop-drop count from ws)
+
+  pub part_between : take (end - start) (drop start ws) ≡ part from count ws
+  part_between =
+      let as_many : end - start ≡ min count (length (drop from ws)) = omega (arith, length-drop from ws) in
+      rw (rest_from, as_many) (take_min count (drop from ws))
+
+  pub put_in_part : (vs : List ℕ) → put_mid start (end - start) ws vs ≡ take from ws ++ (vs ++ drop count (drop from ws))
+  put_in_part vs = rw (rest-after, s, take_min)
+
+-- ---- in_part
 
 laid-part : (from count : ℕ) (vs ws : List ℕ) → length vs ≡ length (part from count ws)
     → take from ws ++ (vs ++ drop count (drop from ws)) ≡ laid from vs ws
@@ -44,9 +48,6 @@ module _ (from count : ℕ) (f : List ℕ → List ℕ) (ws : List ℕ) (keeps :
   pub in_part-laid : in_part from count f ws ≡ laid from (f (part from count ws)) ws
   unfolding in_part
   in_part-laid = laid-part from count (f (part from count ws)) ws keeps
-
-  pub in_part-past : length ws ≤ from → in_part from count f ws ≡ ws
-  in_part-past h = in_part-laid ∙ laid-past from (f (part from count ws)) ws h
 
   pub length-in_part : length (in_part from count f ws) ≡ length ws
   length-in_part = ap length in_part-laid ∙ length-laid from (f (part from count ws)) ws

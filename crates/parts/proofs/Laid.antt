@@ -1,36 +1,21 @@
 -- Laws of laid.
 use mathlib.Core.Path.{◌≡◌, refl, sym, ap, ◌∙◌}
-use mathlib.Core.List.{List, [], ◌∷◌, ◌++◌, append_assoc, append-nil}
-use Prim.Native.Nat.{ℕ, zero, suc, ◌+◌, ◌-◌, ◌≤◌, ◌<◌}
+use mathlib.Core.List.{List, [], ◌∷◌, ◌++◌, append-nil}
+use Prim.Native.Nat.{ℕ, zero, suc, ◌+◌, ◌-◌, ◌≤◌}
 use native.Mathlib.Omega.{arith}
-use native.Mathlib.Numerals.{add-one}
 use native.Mathlib.Nat.{zero-add}
 use native.Mathlib.Decide.{dec_le}
-use lib.ListN.{length, get_or, take, drop, set, replicate, length-take, length-set, length-replicate, get_or-replicate, drop_of_length-le}
-use lib.Seq.{drop-cons, drop-length, set_out, sets, sets-eq, take-set-le, drop-set-lt, drop-set-add, take_at, take_all}
+use lib.ListN.{length, take, drop, set, replicate, length-take, length-drop, length-set, length-replicate, drop_of_length-le}
+use lib.Seq.{set_out, take-set-le, drop-set-lt, drop-set-add, take_at, take_all, take-nil, drop-nil, take-length, drop-drop}
+use Rattle.std.proofs.lemmas.List.{take-replicate}
 use Rattle.parts.specs.Parts.{part, laid, unless_refused}
 
--- ---- a turn of a loop, its end, and where no place is left
+-- ---- where nothing is to be laid, and where no place is left
 
-pub laid_step : (at i : ℕ) (ws buffer : List ℕ) → i < length ws
-    → laid (at + i) (drop i ws) buffer ≡ laid (at + (i + 1)) (drop (i + 1) ws) (set buffer (at + i) (get_or ws i 0))
-unfolding laid
-laid_step at i ws buffer h = let e : at + (i + 1) ≡ suc (at + i) = omega arith in rw (e, add-one i, drop-cons ws i 0)
-
-pub laid_repeat_step : (at i count w : ℕ) (buffer : List ℕ) → i < count
-    → laid (at + i) (drop i (replicate count w)) buffer ≡ laid (at + (i + 1)) (drop (i + 1) (replicate count w)) (set buffer (at + i) w)
-laid_repeat_step at i count w buffer h =
-    laid_step at i (replicate count w) buffer (omega (arith, length-replicate count w))
-    ∙ ap (λ (v : ℕ). laid (at + (i + 1)) (drop (i + 1) (replicate count w)) (set buffer (at + i) v)) (get_or-replicate count i w 0 h)
-
-pub laid_start : (at : ℕ) (ws buffer : List ℕ) → laid (at + 0) ws buffer ≡ laid at ws buffer
+laid_start : (at : ℕ) (ws buffer : List ℕ) → laid (at + 0) ws buffer ≡ laid at ws buffer
 laid_start at ws buffer = let e : at + 0 ≡ at = omega arith in rw e
 
-pub laid_end : (at i : ℕ) (ws buffer : List ℕ) → i ≡ length ws → laid at (drop i ws) buffer ≡ buffer
-unfolding laid
-laid_end at i ws buffer e = rw (e, drop-length)
-
-pub laid-past : (at : ℕ) (ws buffer : List ℕ) → length buffer ≤ at → laid at ws buffer ≡ buffer
+laid-past : (at : ℕ) (ws buffer : List ℕ) → length buffer ≤ at → laid at ws buffer ≡ buffer
 unfolding laid
 laid-past at [] buffer h = refl
 laid-past at (w ∷ ws) buffer h = rw (set_out buffer at w h) (laid-past (suc at) ws buffer (omega arith))
@@ -54,18 +39,31 @@ unfolding laid
 laid_cons at b [] buffer = refl
 laid_cons at b (w ∷ ws) buffer = laid_cons (suc at) b ws (set buffer at w)
 
-laid_sets : (at : ℕ) (ws buffer : List ℕ) → laid at ws buffer ≡ sets buffer at ws
+-- as many words as find a place stand in their part
+pub laid_over : (at : ℕ) (ws buffer : List ℕ)
+    → laid at ws buffer ≡ take at buffer ++ (take (length (part at (length ws) buffer)) ws ++ drop (length ws) (drop at buffer))
 unfolding laid
-laid_sets at [] buffer = refl
-laid_sets at (w ∷ ws) buffer = laid_sets (suc at) ws (set buffer at w)
+laid_over zero [] buffer = refl
+laid_over zero (w ∷ ws) [] = laid-past 1 ws [] (omega arith)
+laid_over zero (w ∷ ws) (b ∷ buffer) = laid_cons 0 w ws buffer ∙ ap (λ (l : List ℕ). w ∷ l) (laid_over zero ws buffer)
+laid_over (suc at) ws [] = laid-past (suc at) ws [] (omega arith) ∙ sym (rw (take-nil, drop-nil))
+laid_over (suc at) ws (b ∷ buffer) = laid_cons at b ws buffer ∙ ap (λ (l : List ℕ). b ∷ l) (laid_over at ws buffer)
+
+pub laid_repeat : (at n w : ℕ) (buffer : List ℕ)
+    → laid at (replicate n w) buffer ≡ take at buffer ++ (replicate (length (part at n buffer)) w ++ drop n (drop at buffer))
+laid_repeat at n w buffer =
+    let few : length (part at n buffer) ≤ n = omega (arith, length-take n (drop at buffer)) in
+    laid_over at (replicate n w) buffer ∙ rw (length-replicate n w, take-replicate (length (part at n buffer)) n w few)
 
 pub laid_split : (at : ℕ) (ws buffer : List ℕ) → at + length ws ≤ length buffer
     → laid at ws buffer ≡ take at buffer ++ (ws ++ drop (at + length ws) buffer)
-laid_split at ws buffer h = laid_sets at ws buffer ∙ sets-eq ws buffer at h ∙ append_assoc (take at buffer) ws (drop (at + length ws) buffer)
+laid_split at ws buffer h =
+    let long : length (part at (length ws) buffer) ≡ length ws = simp (length-take, length-drop) (omega arith) in
+    laid_over at ws buffer ∙ rw (long, take-length, drop-drop)
 
 -- ---- before, after and at the words laid
 
-pub take_of_laid : (n at : ℕ) (ws buffer : List ℕ) → n ≤ at → take n (laid at ws buffer) ≡ take n buffer
+take_of_laid : (n at : ℕ) (ws buffer : List ℕ) → n ≤ at → take n (laid at ws buffer) ≡ take n buffer
 unfolding laid
 take_of_laid n at [] buffer h = refl
 take_of_laid n at (w ∷ ws) buffer h = take_of_laid n (suc at) ws (set buffer at w) (omega arith) ∙ take-set-le n buffer at w h

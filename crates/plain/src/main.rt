@@ -3,20 +3,14 @@
 
 use std::io::{self, Read};
 
-// How many bytes one read brought; a read that fails is the end.
-fn read_some<R: Read>(from: &mut R, input: &mut [u8]) -> usize {
-    from.read(input).unwrap_or(0)
-}
-
-// A proved loop has to end, so it counts its turns to a number that no run uses up.
+// How many bytes are read until a read brings none, or fails. A proved loop has to end, so it counts its turns to a number that no run uses up.
 fn count_bytes<R: Read>(from: &mut R, input: &mut [u8]) -> u64 {
     let mut bytes = 0u64;
     for _ in 0..u64::MAX {
-        let n = read_some(from, input);
-        if n == 0 {
-            return bytes;
+        match from.read(input) {
+            Ok(n) if n > 0 => bytes = bytes.wrapping_add(n as u64),
+            _ => break,
         }
-        bytes = bytes.wrapping_add(n as u64);
     }
     bytes
 }

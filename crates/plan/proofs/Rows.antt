@@ -2,14 +2,16 @@
 use mathlib.Core.Path.{◌≡◌, refl, sym, ◌∙◌}
 use mathlib.Core.Bool.{true, ◌&&◌}
 use mathlib.Core.List.{List}
-use Prim.Native.Nat.{ℕ, zero, suc}
+use Prim.Native.Nat.{ℕ, zero, suc, ◌<◌}
 use native.Mathlib.Omega.{arith}
 use lib.ListN.{length}
 use borrow.Author.Tests.{eqb-true}
 use Rattle.bits.specs.Choice.{if}
 use Rattle.bits.specs.Words.{words10}
 use Rattle.bits.proofs.Choice.{and-true, if_zero}
+use Rattle.refusal.proofs.Answers.{if_below}
 use Rattle.raster.specs.Lines.{line_refusal}
+use Rattle.raster.proofs.Lines.{line_refusal_below}
 use Rattle.plan.specs.Plan.{plan_of}
 use Rattle.plan.specs.Refusal.{row_ok, or_refusal, row_refusal}
 use Rattle.plan.proofs.Plans.{plan_of-total}
@@ -23,6 +25,10 @@ or_refusal_first (suc n) b bad = refl
 pub or_refusal_none : (a b : ℕ) → or_refusal a b ≡ 0 → (a ≡ 0) × (b ≡ 0)
 or_refusal_none zero b e = (refl, e)
 or_refusal_none (suc n) b e = absurd (omega arith)
+
+pub or_refusal_below : {n : ℕ} (a b : ℕ) → a < n → b < n → or_refusal a b < n
+or_refusal_below zero b h k = k
+or_refusal_below (suc a) b h k = h
 
 -- ---- row_refusal
 
@@ -42,6 +48,12 @@ module _ (code line : ℕ) (y c : List ℕ) where
   pub row_refusal_words : line_refusal code line ≡ 0 → row_ok code y ≡ true → row_ok code c ≡ true → row_refusal code line y c ≡ if (words10 y && words10 c) 0 3
   unfolding row_refusal
   row_refusal_words ok ly lc = rw (ok, ly, lc)
+
+  pub row_refusal_below : row_refusal code line y c < 8
+  unfolding row_refusal
+  row_refusal_below =
+      or_refusal_below (line_refusal code line) _ (line_refusal_below code line)
+      (if_below (row_ok code y && row_ok code c) _ 2 (if_below (words10 y && words10 c) 0 3 (omega arith) (omega arith)) (omega arith))
 
   -- 0 exactly when all is right
   pub row_refusal_ok : row_refusal code line y c ≡ 0 → RowFits code line y c

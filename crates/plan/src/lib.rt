@@ -2,8 +2,11 @@
 #![tactic(auto)]
 
 ghost use Rattle.std.specs.Prelude.{◌≡◌};
-ghost use Rattle.plan.specs.Plan.{no_plan, plan_of};
+ghost use Rattle.refusal.specs.Refusal.{result_of};
+ghost use Rattle.plan.specs.Plan.{planned};
 ghost use Rattle.plan.specs.Refusal.{row_refusal};
+
+use refusal::Refusal;
 
 // Where the parts of a row lie: T, the numbers of line number and CRC words, the place of the CRC, the place and length of the
 // blanking, the places of SAV and active words, A.
@@ -31,58 +34,18 @@ pub struct Codes {
 
 #[derive(Clone, Copy)]
 pub struct Plan {
-    pub refusal: u8,
     pub v: bool,
     pub places: Places,
     pub codes: Codes,
 }
 
-// No plan: the refusal's number and zeros.
-fn none(refusal: u8) -> Plan
-    ensures { result ≡ no_plan refusal }
-{
-    let places = Places {
-        total: 0,
-        lines: 0,
-        crc: 0,
-        checks: 0,
-        blank: 0,
-        blanks: 0,
-        sav: 0,
-        active: 0,
-        count: 0,
-    };
-    let codes = Codes {
-        eav: 0,
-        sav: 0,
-        ln0: 0,
-        ln1: 0,
-    };
-    Plan {
-        refusal,
-        v: false,
-        places,
-        codes,
-    }
-}
-
 // The plan of a line of a raster; 4, 5.
-pub fn plan_of(raster: u32, line: u32) -> Plan
-    ensures { result ≡ plan_of raster line }
+pub fn plan_of(raster: u32, line: u32) -> Result<Plan, Refusal>
+    ensures { result ≡ planned raster line }
 {
-    let facts = raster::line_facts(raster, line);
-    if facts.refusal != 0 {
-        return none(facts.refusal);
-    }
-    let words = timing::line_words(raster, line);
-    let codes = Codes {
-        eav: timing::xyz(facts.f, facts.v, true),
-        sav: timing::xyz(facts.f, facts.v, false),
-        ln0: words.ln0,
-        ln1: words.ln1,
-    };
-    let looked = raster::raster_of(raster);
-    let layout = looked.raster.layout;
+    let facts = raster::line_facts(raster, line)?;
+    let words = timing::line_words(raster, line)?;
+    let layout = raster::raster_of(raster)?.layout;
     let crc = 4 + layout.lines;
     let blank = crc + layout.checks;
     let active = layout.total - layout.active;
@@ -98,34 +61,26 @@ pub fn plan_of(raster: u32, line: u32) -> Plan
         active,
         count: layout.active,
     };
-    Plan {
-        refusal: 0,
-        v: facts.v,
-        places,
-        codes,
-    }
+    let codes = Codes {
+        eav: timing::xyz(facts.f, facts.v, true),
+        sav: timing::xyz(facts.f, facts.v, false),
+        ln0: words.ln0,
+        ln1: words.ln1,
+    };
+    let v = facts.v;
+    Ok(Plan { v, places, codes })
 }
 
 // The refusal of a row's two channels; 4, 5, 2, 3.
-pub fn row_refusal(raster: u32, line: u32, y: &[u16], c: &[u16]) -> u8
-    ensures { result ≡ row_refusal raster line y.now c.now }
+pub fn row_refusal(raster: u32, line: u32, y: &[u16], c: &[u16]) -> Result<(), Refusal>
+    ensures { result ≡ result_of (row_refusal raster line y.now c.now) tt }
 {
-    let plan = plan_of(raster, line);
-    if plan.refusal != 0 {
-        return plan.refusal;
+    let total = plan_of(raster, line)?.places.total;
+    if y.len() != total || c.len() != total {
+        return Err(Refusal::WrongLength);
     }
-    let total = plan.places.total;
-    if y.len() != total {
-        return 2;
+    if !bits::all_words(y) || !bits::all_words(c) {
+        return Err(Refusal::TooHigh);
     }
-    if c.len() != total {
-        return 2;
-    }
-    if !bits::all_words(y) {
-        return 3;
-    }
-    if !bits::all_words(c) {
-        return 3;
-    }
-    0
+    Ok(())
 }

@@ -1,7 +1,7 @@
 // Answers requests, one a line (docs/REQUESTS.md). Proved safe, no more.
 #![tactic(auto)]
 
-use probe_answers::numbers::{arg, end_line};
+use probe_answers::numbers::arg;
 use std::io::{self, Read, Write};
 
 // What a hexadecimal digit stands for.
@@ -37,7 +37,7 @@ fn answer<W: Write>(to: &mut W, args: &[u32]) -> io::Result<()> {
         0x81..=0x83 => probe_desks::answer(to, args)?,
         _ => {}
     }
-    end_line(to)
+    writeln!(to)
 }
 
 // A byte of a line whose number at a place is being read; answers the place where the next byte goes on.

@@ -1,82 +1,49 @@
 // Lists of words by their runs.
-ghost use Rattle.std.specs.Prelude.{◌≤◌, ◌<◌, length};
+ghost use Rattle.std.specs.Prelude.{length};
+ghost use Rattle.std.specs.Iterator.{at_most};
 
-use crate::numbers::{arg, then, word};
+use crate::numbers::{arg, word};
 use std::io::{self, Write};
 
-// Where a request goes on after a list, and how many words the list has.
-#[derive(Clone, Copy)]
-pub struct Taken {
-    pub next: usize,
-    pub count: usize,
-}
-
-// Lays a run from a place on, and answers the place after it.
-fn lay_run(words: &mut [u16], from: usize, times: usize, w: u16) -> usize
-    requires { from ≤ length words.old }
-    ensures { result ≤ length words.new }
-{
-    parts::fill(words, from, times, w);
-    if words.len() - from < times {
-        return words.len();
-    }
-    from + times
-}
-
-// Copies the list whose runs stand at a place of a request.
-pub fn take_runs(args: &[u32], at: usize, words: &mut [u16]) -> Taken
-    ensures { result.count ≤ length words.new }
-{
+// Copies the list whose runs stand at a place of a request, of words that find no place none, and answers where the request goes on.
+pub fn take_runs<'a>(args: &[u32], at: usize, words: &'a mut [u16]) -> (&'a mut [u16], usize) {
     let runs = arg(args, at) as usize % 65536;
-    let mut next = at % 65536 + 1;
+    let start = at % 65536 + 1;
     let mut count = 0;
-    for _ in 0..runs {
-        let times = arg(args, next) as usize;
-        let w = word(arg(args, next + 1));
-        count = lay_run(words, count, times, w);
-        next += 2;
+    for run in 0..runs {
+        let place = start + run * 2;
+        let times = arg(args, place) as usize;
+        parts::fill(words, count, times, word(arg(args, place + 1)));
+        count = parts::range(words.len(), count, times).end;
     }
-    Taken { next, count }
+    (&mut words[..count], start + runs * 2)
 }
 
-// The place after the run that starts at a place.
-fn run_end(words: &[u16], start: usize) -> usize
-    requires { start < length words.now }
-    ensures after { start < result }
-    ensures inside { result ≤ length words.now }
-{
-    for i in start + 1..words.len() {
-        if words[i] != words[start] {
-            return i;
-        }
-    }
-    words.len()
-}
+// The runs of these words: how many times, and the word.
+#[derive(Drop)]
+struct Runs<'a>(&'a [u16]);
 
-// How many runs a list has.
-fn run_count(words: &[u16]) -> u64 {
-    let mut count = 0u64;
-    let mut i = 0;
-    while i < words.len() {
-        i = run_end(words, i);
-        count = count % 65536 + 1;
-    }
-    count
-}
+impl<'a> Iterator for Runs<'a> {
+    type Item = (usize, u16);
 
-fn then_run<W: Write>(to: &mut W, times: usize, w: u16) -> io::Result<()> {
-    then(to, times as u64)?;
-    then(to, w as u64)
+    ghost remaining = { λ s. at_most (length s.0.now) };
+
+    fn next(&mut self) -> Option<(usize, u16)> {
+        let (word, others) = self.0.split_first()?;
+        let more = others
+            .iter()
+            .position(|other| other != word)
+            .unwrap_or(others.len());
+        self.0 = &others[more..];
+        Some((more + 1, *word))
+    }
 }
 
 // A list by its runs.
 pub fn then_runs<W: Write>(to: &mut W, words: &[u16]) -> io::Result<()> {
-    then(to, run_count(words))?;
-    let mut i = 0;
-    while i < words.len() {
-        let end = run_end(words, i);
-        then_run(to, end - i, words[i])?;
-        i = end;
+    write!(to, " {:x}", Runs(words).count())?;
+    for (times, word) in Runs(words) {
+        write!(to, " {times:x} {word:x}")?;
     }
     Ok(())
 }

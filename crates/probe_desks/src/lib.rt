@@ -6,8 +6,8 @@ mod outcomes;
 mod takes;
 
 use crate::bytes::{take_bytes, then_bytes};
-use probe_answers::numbers::{arg, first};
-use probe_answers::runs::take_runs;
+use probe_answers::numbers::arg;
+use probe_answers::runs::{take_runs, then_rows};
 use std::io::{self, Write};
 
 // Answers the request whose numbers these are.
@@ -22,8 +22,8 @@ pub fn answer<W: Write>(to: &mut W, args: &[u32]) -> io::Result<()> {
 // Requests of a desk, whose bytes stand at this place.
 fn with_bytes<W: Write>(to: &mut W, args: &[u32], at: usize) -> io::Result<()> {
     let mut bytes = [0u8; 20000];
-    let count = take_bytes(args, at, &mut bytes);
-    with_rows(to, args, at % 65536 + 1 + count % 65536, &bytes[0..count])
+    let bytes = take_bytes(args, at, &mut bytes);
+    with_rows(to, args, at % 65536 + 1 + bytes.len() % 65536, bytes)
 }
 
 // Where the rows stand: after the session, which 82 has at this place.
@@ -37,18 +37,18 @@ fn rows_at(args: &[u32], at: usize) -> usize {
 fn with_rows<W: Write>(to: &mut W, args: &[u32], at: usize, bytes: &[u8]) -> io::Result<()> {
     let mut y = [0u16; 20000];
     let mut c = [0u16; 20000];
-    let taken = take_runs(args, rows_at(args, at), &mut y);
-    let n = taken.count;
-    let m = take_runs(args, taken.next, &mut c).count;
+    let (y, next) = take_runs(args, rows_at(args, at), &mut y);
+    let (c, _) = take_runs(args, next, &mut c);
     if arg(args, 0) == 0x81 {
-        return takes::file(to, args, bytes, &mut y[0..n], &mut c[0..m]);
+        takes::file(to, args, bytes, y, c)?;
+    } else {
+        takes::with_session(to, args, at, bytes, y, c)?;
     }
-    takes::with_session(to, args, at, bytes, &mut y[0..n], &mut c[0..m])
+    then_rows(to, y, c)
 }
 
 fn label<W: Write>(to: &mut W, args: &[u32]) -> io::Result<()> {
     let line = sdi::label_of(outcomes::outcome_of(args));
-    let bytes = line.bytes;
-    first(to, line.size as u64)?;
-    then_bytes(to, &bytes, line.size)
+    write!(to, "{:x}", line.size)?;
+    then_bytes(to, &line.bytes, line.size)
 }

@@ -1,10 +1,9 @@
 // Desks that take, 81 and 82: a fresh desk takes as many bytes as each length of the request lends it, and last all that are left.
 use crate::bytes::bytes_from;
 use crate::outcomes::then_outcome;
-use probe_answers::numbers::{arg, first, then};
-use probe_answers::runs::then_rows;
+use probe_answers::numbers::{arg, number_of};
 use probe_sessions::fields::{session_at, then_session};
-use sdi::{Desk, Taken};
+use sdi::{Desk, Outcome, Taken};
 use std::io::{self, Write};
 
 // A desk that has taken the bytes before a place.
@@ -35,25 +34,25 @@ fn first_told(args: &[u32]) -> usize {
     0
 }
 
-fn tell_refusal<W: Write>(to: &mut W, begins: bool, refusal: u64) -> io::Result<()> {
-    if begins {
-        return first(to, refusal);
-    }
-    then(to, refusal)
-}
-
-fn tell<W: Write>(to: &mut W, args: &[u32], number: usize, taken: Taken) -> io::Result<()> {
+fn tell<W: Write>(
+    to: &mut W,
+    args: &[u32],
+    number: usize,
+    refusal: u8,
+    taken: Taken,
+) -> io::Result<()> {
     let start = first_told(args);
     if number < start {
         return Ok(());
     }
-    tell_refusal(to, number == start, taken.refusal as u64)?;
-    then(to, taken.taken as u64)?;
-    let outcome = taken.outcome;
-    then_outcome(to, outcome)
+    if start < number {
+        write!(to, " ")?;
+    }
+    write!(to, "{refusal:x} {:x}", taken.taken)?;
+    then_outcome(to, taken.outcome)
 }
 
-// The take of this number.
+// The take of this number; one that is refused takes nothing.
 fn take<W: Write>(
     to: &mut W,
     args: &[u32],
@@ -63,15 +62,18 @@ fn take<W: Write>(
     y: &mut [u16],
     c: &mut [u16],
 ) -> io::Result<Stand> {
-    let at = stand.at;
-    let taken = stand
-        .desk
-        .take(bytes_from(bytes, at, lent(args, number, bytes)), y, c);
-    tell(to, args, number, taken)?;
-    let desk = taken.desk;
+    let lent = bytes_from(bytes, stand.at, lent(args, number, bytes));
+    let answer = stand.desk.take(lent, y, c);
+    let refusal = number_of(&answer);
+    let taken = answer.unwrap_or(Taken {
+        desk: stand.desk,
+        taken: 0,
+        outcome: Outcome::Nothing,
+    });
+    tell(to, args, number, refusal, taken)?;
     Ok(Stand {
-        desk,
-        at: at % 65536 + taken.taken % 65536,
+        desk: taken.desk,
+        at: stand.at % 65536 + taken.taken % 65536,
     })
 }
 
@@ -83,8 +85,10 @@ fn takes<W: Write>(
     y: &mut [u16],
     c: &mut [u16],
 ) -> io::Result<Stand> {
-    let desk = Desk::fresh();
-    let mut stand = Stand { desk, at: 0 };
+    let mut stand = Stand {
+        desk: Desk::fresh(),
+        at: 0,
+    };
     for number in 0..last_take(args) {
         stand = take(to, args, number, stand, bytes, y, c)?;
     }
@@ -101,8 +105,7 @@ pub fn file<W: Write>(
 ) -> io::Result<()> {
     let stand = takes(to, args, bytes, y, c)?;
     let last = take(to, args, last_take(args), stand, bytes, y, c)?;
-    then_outcome(to, last.desk.finish())?;
-    then_rows(to, y, c)
+    then_outcome(to, last.desk.finish())
 }
 
 // The takes before the last, lent rows of their own: so a desk comes to its words also where the rows of the last are too short.
@@ -122,14 +125,14 @@ pub fn with_session<W: Write>(
     c: &mut [u16],
 ) -> io::Result<()> {
     let before = takes_apart(to, args, bytes)?;
-    let reader = before.desk.reader;
     let session = session_at(args, at);
-    let desk = Desk { reader, session };
     let stand = Stand {
-        desk,
+        desk: Desk {
+            session,
+            ..before.desk
+        },
         at: before.at,
     };
     let last = take(to, args, last_take(args), stand, bytes, y, c)?;
-    then_session(to, last.desk.session)?;
-    then_rows(to, y, c)
+    then_session(to, last.desk.session)
 }

@@ -1,6 +1,6 @@
 // Rows checked and corrected, 60 and 61.
 use crate::carries::then_carry;
-use probe_answers::numbers::{first, two};
+use probe_answers::numbers::number_of;
 use probe_answers::runs::then_rows;
 use sdi::Carry;
 use std::io::{self, Write};
@@ -13,10 +13,13 @@ pub fn check<W: Write>(
     y: &[u16],
     c: &[u16],
 ) -> io::Result<()> {
-    let checked = sdi::check_row(raster, line, carry, y, c);
-    two(to, checked.refusal as u64, checked.flags as u64)?;
-    let carry = checked.carry;
-    then_carry(to, carry)
+    match sdi::check_row(raster, line, carry, y, c) {
+        Ok(judged) => {
+            write!(to, "0 {:x}", judged.flags)?;
+            then_carry(to, judged.carry)
+        }
+        Err(refusal) => write!(to, "{:x} 0 0 0 0", u8::from(refusal)),
+    }
 }
 
 pub fn correct<W: Write>(
@@ -29,8 +32,7 @@ pub fn correct<W: Write>(
     c: &mut [u16],
 ) -> io::Result<()> {
     let corrected = sdi::correct_row(raster, line, carry, wipe, y, c);
-    first(to, corrected.refusal as u64)?;
-    let carry = corrected.carry;
-    then_carry(to, carry)?;
+    write!(to, "{:x}", number_of(&corrected))?;
+    then_carry(to, corrected.ok().flatten())?;
     then_rows(to, y, c)
 }

@@ -28,11 +28,9 @@ pub fn answer<W: Write>(to: &mut W, args: &[u32]) -> io::Result<()> {
 fn with_rows<W: Write>(to: &mut W, args: &[u32], at: usize) -> io::Result<()> {
     let mut y = [0u16; 20000];
     let mut c = [0u16; 20000];
-    let a = take_runs(args, at, &mut y);
-    let b = take_runs(args, a.next, &mut c);
-    let m = a.count;
-    let n = b.count;
-    of_rows(to, args, b.next, &mut y[0..m], &mut c[0..n])
+    let (y, at) = take_runs(args, at, &mut y);
+    let (c, at) = take_runs(args, at, &mut c);
+    of_rows(to, args, at, y, c)
 }
 
 // Requests of these rows, which go on at this place.

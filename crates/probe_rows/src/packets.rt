@@ -1,5 +1,5 @@
 // Packets, 50 to 52.
-use probe_answers::numbers::{arg, byte, first, two};
+use probe_answers::numbers::{arg, byte, number_of};
 use probe_answers::runs::{take_runs, then_runs};
 use sdi::Channel;
 use std::io::{self, Write};
@@ -7,21 +7,10 @@ use std::io::{self, Write};
 pub fn build<W: Write>(to: &mut W, args: &[u32]) -> io::Result<()> {
     let mut user = [0u16; 20000];
     let mut out = [0u16; 20000];
-    let taken = take_runs(args, 3, &mut user);
-    let n = taken.count;
-    let m = take_runs(args, taken.next, &mut out).count;
-    built(
-        to,
-        byte(arg(args, 1)),
-        byte(arg(args, 2)),
-        &user[0..n],
-        &mut out[0..m],
-    )
-}
-
-fn built<W: Write>(to: &mut W, did: u8, sdid: u8, user: &[u16], out: &mut [u16]) -> io::Result<()> {
-    let made = sdi::build_packet(did, sdid, user, out);
-    two(to, made.refusal as u64, made.words as u64)?;
+    let (user, at) = take_runs(args, 3, &mut user);
+    let (out, _) = take_runs(args, at, &mut out);
+    let built = sdi::build_packet(byte(arg(args, 1)), byte(arg(args, 2)), user, out);
+    write!(to, "{:x} {:x}", number_of(&built), built.unwrap_or(0))?;
     then_runs(to, out)
 }
 
@@ -34,15 +23,16 @@ pub fn find<W: Write>(
     y: &[u16],
     c: &[u16],
 ) -> io::Result<()> {
-    first(to, sdi::find_refusal(raster, line, did, sdid, y, c) as u64)?;
+    let refusal = sdi::find_refusal(raster, line, did, sdid, y, c);
+    write!(to, "{:x}", number_of(&refusal))?;
     then_runs(to, sdi::find_packet(raster, line, did, sdid, y, c))
 }
 
 fn channel_of(n: u32) -> Channel {
-    if n == 0 {
-        return Channel::Y;
+    match n {
+        0 => Channel::Y,
+        _ => Channel::C,
     }
-    Channel::C
 }
 
 // The output stands at this place.
@@ -54,28 +44,14 @@ pub fn extract<W: Write>(
     c: &[u16],
 ) -> io::Result<()> {
     let mut out = [0u16; 20000];
-    let count = take_runs(args, at, &mut out).count;
-    extracted(
+    let (out, _) = take_runs(args, at, &mut out);
+    let channel = channel_of(arg(args, 3));
+    let extracted = sdi::extract_packets(arg(args, 1), arg(args, 2), channel, y, c, out);
+    write!(
         to,
-        arg(args, 1),
-        arg(args, 2),
-        channel_of(arg(args, 3)),
-        y,
-        c,
-        &mut out[0..count],
-    )
-}
-
-fn extracted<W: Write>(
-    to: &mut W,
-    raster: u32,
-    line: u32,
-    channel: Channel,
-    y: &[u16],
-    c: &[u16],
-    out: &mut [u16],
-) -> io::Result<()> {
-    let got = sdi::extract_packets(raster, line, channel, y, c, out);
-    two(to, got.refusal as u64, got.words as u64)?;
+        "{:x} {:x}",
+        number_of(&extracted),
+        extracted.unwrap_or(0)
+    )?;
     then_runs(to, out)
 }

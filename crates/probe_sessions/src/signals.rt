@@ -1,34 +1,27 @@
 // Signals: cable words by runs of two, and a list after them.
-ghost use Rattle.std.specs.Prelude.{◌≤◌, length};
-
 use probe_answers::numbers::{arg, word};
-use probe_answers::runs::Taken;
 
 // Lays the run of two words at a place of a request, which how many times precedes, from a place on.
 fn lay_twos(args: &[u32], at: usize, words: &mut [u16], from: usize) {
     let times = arg(args, at) as usize % 65536;
     let one = word(arg(args, at % 65536 + 1));
     let two = word(arg(args, at % 65536 + 2));
-    let mut place = from;
-    for _ in 0..times {
-        parts::lay(words, place, &[one, two]);
-        place = place % 65536 + 2;
+    for time in 0..times {
+        parts::lay(words, from % 65536 + time * 2, &[one, two]);
     }
 }
 
 // Lays the list at a place of a request, which its count precedes, from a place on.
 fn lay_list(args: &[u32], at: usize, words: &mut [u16], from: usize) {
-    let count = arg(args, at) as usize;
+    let count = arg(args, at) as usize % 65536;
     for k in 0..count {
-        let w = word(arg(args, at % 65536 + k % 65536 + 1));
-        parts::lay(words, from % 65536 + k % 65536, &[w]);
+        let w = word(arg(args, at % 65536 + k + 1));
+        parts::lay(words, from % 65536 + k, &[w]);
     }
 }
 
-// Copies the words of a signal, which stands at a place of a request, as they are written there.
-fn take_written(args: &[u32], at: usize, words: &mut [u16]) -> Taken
-    ensures { result.count ≤ length words.new }
-{
+// Copies the words of a signal, which stands at a place of a request, as they are written there, and answers where the request goes on.
+fn take_written<'a>(args: &[u32], at: usize, words: &'a mut [u16]) -> (&'a mut [u16], usize) {
     let runs = arg(args, at % 65536 + 1) as usize % 65536;
     let mut next = at % 65536 + 2;
     let mut count = 0usize;
@@ -39,32 +32,23 @@ fn take_written(args: &[u32], at: usize, words: &mut [u16]) -> Taken
     }
     lay_list(args, next, words, count);
     let listed = arg(args, next) as usize % 65536;
-    taken(words, next % 65536 + 1 + listed, count % 65536 + listed)
-}
-
-// Where a request goes on, and how many of the words there are.
-fn taken(words: &[u16], next: usize, count: usize) -> Taken
-    ensures { result.count ≤ length words.now }
-{
-    if words.len() < count {
-        return Taken {
-            next,
-            count: words.len(),
-        };
-    }
-    Taken { next, count }
+    let end = words.len().min(count % 65536 + listed);
+    (&mut words[..end], next % 65536 + 1 + listed)
 }
 
 // Copies the words of a signal, which stands at a place of a request; they are scrambled, where that is asked, from this history.
-pub fn take_signal(args: &[u32], at: usize, history: u16, words: &mut [u16]) -> Taken
-    ensures { result.count ≤ length words.new }
-{
-    let taken = take_written(args, at, words);
-    if arg(args, at) == 0 {
-        return taken;
+pub fn take_signal<'a>(
+    args: &[u32],
+    at: usize,
+    history: u16,
+    words: &'a mut [u16],
+) -> (&'a mut [u16], usize) {
+    let (words, next) = take_written(args, at, words);
+    if arg(args, at) != 0 {
+        let mut written = [0u16; 40000];
+        parts::lay(&mut written, 0, words);
+        // Words that are refused stay as they are written.
+        let _ = sdi::scramble(history, parts::part(&written, 0, words.len()), words);
     }
-    let mut written = [0u16; 40000];
-    parts::lay(&mut written, 0, words);
-    sdi::scramble(history, parts::part(&written, 0, taken.count), words);
-    taken
+    (words, next)
 }

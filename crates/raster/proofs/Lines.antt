@@ -1,5 +1,5 @@
 -- Laws of V and F of a line.
-use mathlib.Core.Path.{◌≡◌, refl}
+use mathlib.Core.Path.{◌≡◌, refl, ap, ◌∙◌}
 use mathlib.Core.Bool.{Bool, true, false, ◌&&◌}
 use Prim.Native.Nat.{ℕ, zero, suc, ◌+◌, ◌≤◌, ◌<◌}
 use native.Mathlib.Omega.{arith}
@@ -10,7 +10,13 @@ use Rattle.raster.specs.declared.Entry.{Entry}
 use Rattle.raster.specs.declared.Kind.{Kind}
 use Rattle.raster.specs.declared.Kind.TheVariants.{Progressive}
 use Rattle.raster.specs.Table.{table, raster_ok, entry_of}
-use Rattle.raster.specs.Lines.{between, v_of, f_of, line_ok, line_refusal, facts_for, line_facts}
+use Rattle.std.specs.Prelude.{Ok, Err}
+use Rattle.refusal.specs.declared.Refusal.{Refusal}
+use Rattle.refusal.specs.declared.Refusal.TheVariants.{NoRaster, NoLine}
+use Rattle.refusal.specs.Refusal.{refusal_numbered, refusal_of}
+use Rattle.refusal.proofs.Answers.{if_below, result_of_ok, result_of_err, refusal_of_result}
+use Rattle.raster.specs.declared.LineFacts.{LineFacts}
+use Rattle.raster.specs.Lines.{between, v_of, f_of, line_ok, line_refusal, facts_of, line_facts}
 use Rattle.bits.proofs.Choice.{and-true, if_zero}
 use Rattle.bits.proofs.Each.{each}
 use Rattle.raster.proofs.Table.{entry_all, raster_range}
@@ -78,34 +84,36 @@ line_refusal_ok code line e =
 pub ok_line_refusal : (code line : ℕ) → raster_ok code ≡ true → line_ok code line ≡ true → line_refusal code line ≡ 0
 ok_line_refusal code line ok on = rw (ok, on)
 
+pub line_refusal_below : (code line : ℕ) → line_refusal code line < 8
+line_refusal_below code line = if_below (raster_ok code) _ 4 (if_below (line_ok code line) 0 5 (omega arith) (omega arith)) (omega arith)
+
 -- ---- line_facts
 
-pub line_facts_bad : (code line : ℕ) → raster_ok code ≡ false → line_facts code line ≡ record { refusal = 4; v = false; f = false }
-unfolding line_facts
-line_facts_bad code line bad = rw bad
+module _ (code line : ℕ) where
+  pub line_facts_found : raster_ok code ≡ true → line_ok code line ≡ true → line_facts code line ≡ Ok (facts_of (entry_of code) line)
+  unfolding line_facts
+  line_facts_found ok on = rw (ok, on)
 
-pub line_facts_off : (code line : ℕ) → raster_ok code ≡ true → line_ok code line ≡ false
-    → line_facts code line ≡ record { refusal = 5; v = false; f = false }
-unfolding line_facts
-line_facts_off code line ok off = rw (ok, off)
+  pub line_facts_bad : raster_ok code ≡ false → line_facts code line ≡ Err NoRaster
+  unfolding line_facts refusal_numbered
+  line_facts_bad bad = rw bad
 
-pub line_facts-found : (code line : ℕ) → raster_ok code ≡ true → line_ok code line ≡ true
-    → line_facts code line ≡ record { refusal = 0; v = v_of (entry_of code).rows (entry_of code).kind line; f = f_of (entry_of code).kind line }
-unfolding line_facts
-line_facts-found code line ok on = rw (ok, on)
+  pub line_facts_off : raster_ok code ≡ true → line_ok code line ≡ false → line_facts code line ≡ Err NoLine
+  unfolding line_facts refusal_numbered
+  line_facts_off ok off = rw (ok, off)
 
-pub line_facts_refusal : (code line : ℕ) → (line_facts code line).refusal ≡ line_refusal code line
-unfolding line_facts
-line_facts_refusal code line = go (line_refusal code line)
-  where
-    go : (n : ℕ) → (facts_for n (entry_of code) line).refusal ≡ n
-    go zero = refl
-    go (suc n) = refl
+  pub line_facts_refusal : refusal_of (line_facts code line) ≡ line_refusal code line
+  unfolding line_facts
+  line_facts_refusal = refusal_of_result (facts_of (entry_of code) line) (line_refusal code line) (line_refusal_below code line)
 
-pub line_facts_progressive : (code line : ℕ) → (entry_of code).kind ≡ Progressive → (line_facts code line).f ≡ false
-unfolding line_facts
-line_facts_progressive code line e = go (line_refusal code line)
-  where
-    go : (n : ℕ) → (facts_for n (entry_of code) line).f ≡ false
-    go zero = f_progressive (entry_of code).kind line e
-    go (suc n) = refl
+  pub line_facts_ok : {facts : LineFacts} → line_facts code line ≡ Ok facts → (line_refusal code line ≡ 0) × (facts ≡ facts_of (entry_of code) line)
+  unfolding line_facts
+  line_facts_ok e = result_of_ok (facts_of (entry_of code) line) (line_refusal code line) e
+
+  pub line_facts_err : {refusal : Refusal} → line_facts code line ≡ Err refusal
+      → (line_refusal code line ≡ 0 → ⊥) × (refusal ≡ refusal_numbered (line_refusal code line))
+  unfolding line_facts
+  line_facts_err e = result_of_err (facts_of (entry_of code) line) (line_refusal code line) e
+
+  pub line_facts_progressive : {facts : LineFacts} → (entry_of code).kind ≡ Progressive → line_facts code line ≡ Ok facts → facts.f ≡ false
+  line_facts_progressive k e = ap (λ (r : LineFacts). r.f) (line_facts_ok e).1 ∙ f_progressive (entry_of code).kind line k

@@ -10,9 +10,9 @@ use Rattle.bits.proofs.Each.{each}
 use Rattle.raster.specs.declared.Entry.{Entry}
 use Rattle.raster.specs.declared.Layout.{Layout}
 use Rattle.raster.specs.Layout.{blanks, hd}
-use Rattle.raster.specs.Table.{table, no_entry, meant, entry_of, raster_ok, looked_up}
+use Rattle.raster.specs.Table.{table, no_entry, meant, entry_of, raster_ok, raster_given}
 use Rattle.raster.proofs.Each.{each2, each2_at}
-use Rattle.raster.proofs.Table.{meant_range, entry_all, looked_up-found}
+use Rattle.raster.proofs.Table.{meant_range, entry_all, raster_given-found}
 
 -- the parts of a row, one after the other: EAV, line number, CRC, blanking, SAV, active words
 abbrev pub row_sum : Layout → ℕ
@@ -29,11 +29,11 @@ pub layout_sum_table : T (each sums table)
 layout_sum_table = tt
 
 -- the layout that a code's answer has is that of its row
-pub layout_of_found : (code : ℕ) → raster_ok code ≡ true → (looked_up code).raster.layout ≡ layout_of (entry_of code)
-layout_of_found code ok = ap (λ l. l.raster.layout) (looked_up-found code ok)
+pub layout_of_found : (code : ℕ) → raster_ok code ≡ true → (raster_given code).layout ≡ layout_of (entry_of code)
+layout_of_found code ok = ap (λ r. r.layout) (raster_given-found code ok)
 
 pub layout_sum : (code : ℕ) → raster_ok code ≡ true
-    → row_sum (looked_up code).raster.layout ≡ (looked_up code).raster.layout.total
+    → row_sum (raster_given code).layout ≡ (raster_given code).layout.total
 layout_sum code ok = rw (layout_of_found code ok) (eqb→eq _ _ (entry_all sums layout_sum_table code ok))
 
 -- "The HANC lengths in source document 004's table", codes 1 to 11: its lines 1108, 1112, 1110, 1114, 1121, 1123, 1125, 1130, 1124, 1126, 1129
@@ -51,7 +51,7 @@ blanking_length-table = tt
 pub blanks_of_hd : (t a : ℕ) → blanks (hd t a) ≡ t - a - 12
 blanks_of_hd t a = omega arith
 
-pub blanking_length : (code : ℕ) → raster_ok code ≡ true → blanks (looked_up code).raster.layout ≡ get_or hanc_lengths (meant code - 1) 0
+pub blanking_length : (code : ℕ) → raster_ok code ≡ true → blanks (raster_given code).layout ≡ get_or hanc_lengths (meant code - 1) 0
 unfolding entry_of
 blanking_length code ok =
     let r = meant_range code ok in

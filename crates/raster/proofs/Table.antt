@@ -1,5 +1,5 @@
 -- Laws of the table: codes, looking up, naming.
-use mathlib.Core.Path.{◌≡◌, refl, sym, ap, subst, ◌∙◌}
+use mathlib.Core.Path.{◌≡◌, refl, ap, sym, subst, ◌∙◌}
 use mathlib.Core.Bool.{Bool, true, false}
 use mathlib.Core.List.{List, [], ◌∷◌}
 use Prim.Native.Nat.{ℕ, zero, suc, ◌+◌, ◌-◌, ◌≤◌, ◌<◌}
@@ -15,8 +15,13 @@ use Rattle.raster.specs.declared.Entry.{Entry}
 use Rattle.raster.specs.declared.Kind.{Kind}
 use Rattle.raster.specs.declared.Kind.TheVariants.{Progressive, TwoFields}
 use Rattle.raster.specs.declared.Raster.{Raster}
-use Rattle.raster.specs.Table.{table, no_entry, highest, meant, entry_of, raster_ok, raster_at, no_raster, looked_up, same_kind, fits, name_from, name_of}
+use Rattle.raster.specs.Table.{table, no_entry, highest, meant, entry_of, raster_ok, raster_at, no_raster, raster_given, raster_refusal, looked_up, same_kind, fits, name_from, name_of}
 use Rattle.bits.proofs.Choice.{false_not_true, and-true, if_zero}
+use Rattle.refusal.specs.declared.Refusal.{Refusal}
+use Rattle.refusal.specs.declared.Refusal.TheVariants.{NoRaster}
+use Rattle.refusal.specs.Refusal.{refusal_numbered}
+use Rattle.refusal.proofs.Answers.{err_same, ok_not_err, result_of_ok}
+use Rattle.std.specs.Prelude.{Ok, Err}
 
 -- ---- highest
 
@@ -44,38 +49,46 @@ pub entry_all : (f : Entry → Bool) → T (each f table) → (code : ℕ) → r
 unfolding entry_of
 entry_all f t code ok = let r = meant_range code ok in each_at f table no_entry t (meant code - 1) (omega arith)
 
--- ---- looked_up
+-- ---- raster_given and looked_up
 
-pub looked_up-found : (code : ℕ) → raster_ok code ≡ true → looked_up code ≡ record { refusal = 0; raster = raster_at (meant code) (entry_of code) }
+pub raster_given-found : (code : ℕ) → raster_ok code ≡ true → raster_given code ≡ raster_at (meant code) (entry_of code)
+unfolding raster_given
+raster_given-found code ok = rw ok
+
+pub raster_given-none : (code : ℕ) → raster_ok code ≡ false → raster_given code ≡ no_raster
+unfolding raster_given
+raster_given-none code bad = rw bad
+
+-- a raster is answered for exactly the codes 0..11, and 4 for all others
+pub looked_up_found : (code : ℕ) → raster_ok code ≡ true → looked_up code ≡ Ok (raster_given code)
 unfolding looked_up
-looked_up-found code ok = rw ok
+looked_up_found code ok = rw ok
 
-pub looked_up-refused : (code : ℕ) → raster_ok code ≡ false → looked_up code ≡ record { refusal = 4; raster = no_raster }
+pub looked_up_none : (code : ℕ) → raster_ok code ≡ false → looked_up code ≡ Err NoRaster
+unfolding looked_up refusal_numbered
+looked_up_none code bad = rw bad
+
+pub looked_up_ok : {raster : Raster} (code : ℕ) → looked_up code ≡ Ok raster → (raster_ok code ≡ true) × (raster ≡ raster_given code)
 unfolding looked_up
-looked_up-refused code bad = rw bad
+looked_up_ok code e =
+    let r = result_of_ok (raster_given code) (raster_refusal code) e in
+    ((if_zero (raster_ok code) 0 3 r.0).0, r.1)
 
-pub looked_up_refusal : (code : ℕ) → (looked_up code).refusal ≡ if (raster_ok code) 0 4
-looked_up_refusal code = go (raster_ok code) refl
+pub looked_up_err : {refusal : Refusal} (code : ℕ) → looked_up code ≡ Err refusal → (raster_ok code ≡ false) × (refusal ≡ NoRaster)
+looked_up_err {refusal} code e = go (raster_ok code) refl
   where
-    go : (b : Bool) → raster_ok code ≡ b → (looked_up code).refusal ≡ if b 0 4
-    go true e = ap (λ l. l.refusal) (looked_up-found code e)
-    go false e = ap (λ l. l.refusal) (looked_up-refused code e)
-
--- refusal 0 exactly when the code is one of 0..11
-pub refusal_ok : (code : ℕ) → (looked_up code).refusal ≡ 0 → raster_ok code ≡ true
-refusal_ok code e = (if_zero (raster_ok code) 0 3 (sym (looked_up_refusal code) ∙ e)).0
-
-pub refusal_bad : (code : ℕ) → ((looked_up code).refusal ≡ 0 → ⊥) → raster_ok code ≡ false
-refusal_bad code h = go (raster_ok code) (λ e. h (looked_up_refusal code ∙ e))
-  where
-    go : (b : Bool) → (if {A = ℕ} b 0 4 ≡ 0 → ⊥) → b ≡ false
-    go true q = absurd (q refl)
-    go false q = refl
+    go : (b : Bool) → raster_ok code ≡ b → (raster_ok code ≡ false) × (refusal ≡ NoRaster)
+    go true ok = absurd (ok_not_err (looked_up_found code ok) e)
+    go false bad = (bad, err_same e (looked_up_none code bad))
 
 -- "Code 0 stands for 7"
+pub raster_given_zero : raster_given 0 ≡ raster_given 7
+unfolding raster_given entry_of
+raster_given_zero = refl
+
 pub looked_up_zero : looked_up 0 ≡ looked_up 7
-unfolding looked_up entry_of
-looked_up_zero = refl
+unfolding looked_up
+looked_up_zero = ap Ok raster_given_zero
 
 -- ---- the ranges of a raster
 
@@ -110,8 +123,8 @@ raster_range code ok =
       rows_high = leb→le _ _ (entry_all (λ e. leb e.rows 1125) tt code ok);
     }
 
-pub looked_up_range : (code : ℕ) → raster_ok code ≡ true → InRange (looked_up code).raster
-looked_up_range code ok = subst InRange (sym (ap (λ l. l.raster) (looked_up-found code ok))) (raster_range code ok)
+pub looked_up_range : (code : ℕ) → raster_ok code ≡ true → InRange (raster_given code)
+looked_up_range code ok = subst InRange (sym (raster_given-found code ok)) (raster_range code ok)
 
 -- ---- same_kind and fits
 

@@ -1,6 +1,8 @@
 -- V and F of a line.
-use Rattle.std.specs.Prelude.{Bool, false, not, ◌&&◌, ◌||◌, ℕ, zero, suc, leb, eqb}
+use Rattle.std.specs.Prelude.{Bool, false, not, ◌&&◌, ◌||◌, Result, ℕ, leb, eqb}
 use Rattle.bits.specs.Choice.{if}
+use Rattle.refusal.specs.declared.Refusal.{Refusal}
+use Rattle.refusal.specs.Refusal.{result_of}
 use Rattle.raster.specs.declared.Entry.{Entry}
 use Rattle.raster.specs.declared.Kind.{Kind}
 use Rattle.raster.specs.declared.Kind.TheVariants.{Progressive, TwoFields}
@@ -29,10 +31,9 @@ line_ok code line = between 1 (entry_of code).rows line
 abbrev pub line_refusal : ℕ → ℕ → ℕ
 line_refusal code line = if (raster_ok code) (if (line_ok code line) 0 5) 4
 
--- V and F of a line, or the refusal's number with zeros
-abbrev pub facts_for : ℕ → Entry → ℕ → LineFacts
-facts_for zero e line = record { refusal = 0; v = v_of e.rows e.kind line; f = f_of e.kind line }
-facts_for (suc n) e line = record { refusal = suc n; v = false; f = false }
+-- V and F of a line
+abbrev pub facts_of : Entry → ℕ → LineFacts
+facts_of e line = record { v = v_of e.rows e.kind line; f = f_of e.kind line }
 
-unfoldable pub line_facts : ℕ → ℕ → LineFacts
-line_facts code line = facts_for (line_refusal code line) (entry_of code) line
+unfoldable pub line_facts : ℕ → ℕ → Result LineFacts Refusal
+line_facts code line = result_of (line_refusal code line) (facts_of (entry_of code) line)

@@ -1,17 +1,13 @@
 -- The table of rasters.
-use Rattle.std.specs.Prelude.{Bool, ◌&&◌, List, [], ◌∷◌, ℕ, zero, suc, ◌-◌, leb, eqb, get_or}
-use Rattle.bits.specs.Choice.{if}
+use Rattle.std.specs.Prelude.{Bool, true, false, ◌&&◌, Option, Result, List, [], ◌∷◌, ℕ, zero, suc, ◌-◌, leb, eqb, get_or}
+use Rattle.bits.specs.Choice.{if, unless_zero}
+use Rattle.refusal.specs.declared.Refusal.{Refusal}
+use Rattle.refusal.specs.Refusal.{result_of}
 use Rattle.raster.specs.declared.Entry.{Entry}
 use Rattle.raster.specs.declared.Kind.{Kind}
 use Rattle.raster.specs.declared.Kind.TheVariants.{Progressive, TwoFields}
-use Rattle.raster.specs.declared.LookedUp.{LookedUp}
 use Rattle.raster.specs.declared.Raster.{Raster}
 use Rattle.raster.specs.Layout.{hd}
-
--- a kind as a number: 0 "progressive", 1 "two fields"
-abbrev pub kind_number : Kind → ℕ
-kind_number Progressive = 0
-kind_number TwoFields = 1
 
 abbrev pub entry : ℕ → ℕ → ℕ → Kind → Entry
 entry t a n k = record { total = t; active = a; rows = n; kind = k }
@@ -53,7 +49,7 @@ highest = 11
 abbrev pub raster_ok : ℕ → Bool
 raster_ok code = leb code highest
 
--- the raster of a code, or refusal 4 with zeros
+-- the raster of a code; zeros where there is none, which is refusal 4
 abbrev pub raster_at : ℕ → Entry → Raster
 raster_at code e = record { code = code; layout = hd e.total e.active; rows = e.rows; kind = e.kind }
 
@@ -66,21 +62,28 @@ no_raster =
       kind = Progressive;
     }
 
-unfoldable pub looked_up : ℕ → LookedUp
-looked_up code =
-    if (raster_ok code) (record { refusal = 0; raster = raster_at (meant code) (entry_of code) })
-    (record { refusal = 4; raster = no_raster })
+unfoldable pub raster_given : ℕ → Raster
+raster_given code = if (raster_ok code) (raster_at (meant code) (entry_of code)) no_raster
+
+abbrev pub raster_refusal : ℕ → ℕ
+raster_refusal code = if (raster_ok code) 0 4
+
+unfoldable pub looked_up : ℕ → Result Raster Refusal
+looked_up code = result_of (raster_refusal code) (raster_given code)
 
 -- T and N of a raster
 abbrev pub total_of : ℕ → ℕ
-total_of code = (looked_up code).raster.layout.total
+total_of code = (raster_given code).layout.total
 
 abbrev pub rows_of : ℕ → ℕ
-rows_of code = (looked_up code).raster.rows
+rows_of code = (raster_given code).rows
 
 -- "Naming a raster takes T, A, N and kind, and answers the code, or 0 when no row of the table fits."
 abbrev pub same_kind : Kind → Kind → Bool
-same_kind k l = eqb (kind_number k) (kind_number l)
+same_kind Progressive Progressive = true
+same_kind Progressive TwoFields = false
+same_kind TwoFields Progressive = false
+same_kind TwoFields TwoFields = true
 
 abbrev pub fits : ℕ → ℕ → ℕ → Kind → Entry → Bool
 fits t a n k e = eqb e.total t && (eqb e.active a && (eqb e.rows n && same_kind e.kind k))
@@ -92,3 +95,7 @@ name_from c (e ∷ es) t a n k = if (fits t a n k e) c (name_from (suc c) es t a
 
 unfoldable pub name_of : ℕ → ℕ → ℕ → Kind → ℕ
 name_of t a n k = name_from 1 table t a n k
+
+-- .. which stands for none
+unfoldable pub named : ℕ → ℕ → ℕ → Kind → Option ℕ
+named t a n k = unless_zero (name_of t a n k)

@@ -2,13 +2,15 @@
 #![tactic(auto)]
 
 ghost use Rattle.std.specs.Prelude.{◌≡◌, ◌<◌, get_or};
-ghost use Rattle.raster.specs.Table.{fits, highest, looked_up, meant, name_of, no_entry, kind_number, table};
+ghost use Rattle.raster.specs.Table.{fits, highest, looked_up, meant, named, no_entry, table};
 ghost use Rattle.raster.specs.Lines.{between, line_facts, v_of, f_of};
+
+use refusal::Refusal;
 
 // The highest code; the lowest is 1, and 0 stands for one of them.
 pub const HIGHEST: u32 = 11;
 
-#[derive(Clone, Copy)]
+#[derive(Clone, Copy, PartialEq, Eq)]
 pub enum Kind {
     Progressive,
     TwoFields,
@@ -32,15 +34,9 @@ pub struct Raster {
     pub kind: Kind,
 }
 
-#[derive(Clone, Copy)]
-pub struct LookedUp {
-    pub refusal: u8,
-    pub raster: Raster,
-}
-
+// V and F of a line.
 #[derive(Clone, Copy)]
 pub struct LineFacts {
-    pub refusal: u8,
     pub v: bool,
     pub f: bool,
 }
@@ -143,25 +139,12 @@ fn meant_code(code: u32) -> u32
     code
 }
 
-// The raster of a code, 0 being 7; refusal 4 where there is none.
-pub fn raster_of(code: u32) -> LookedUp
+// The raster of a code, 0 being 7; 4.
+pub fn raster_of(code: u32) -> Result<Raster, Refusal>
     ensures { result ≡ looked_up code }
 {
     if HIGHEST < code {
-        let layout = Layout {
-            unit: 0,
-            total: 0,
-            active: 0,
-            lines: 0,
-            checks: 0,
-        };
-        let raster = Raster {
-            code: 0,
-            layout,
-            rows: 0,
-            kind: Kind::Progressive,
-        };
-        return LookedUp { refusal: 4, raster };
+        return Err(Refusal::NoRaster);
     }
     let meant = meant_code(code);
     let entry = entry_at((meant - 1) as usize);
@@ -172,66 +155,42 @@ pub fn raster_of(code: u32) -> LookedUp
         lines: 2,
         checks: 2,
     };
-    let kind = entry.kind;
-    let raster = Raster {
+    Ok(Raster {
         code: meant,
         layout,
         rows: entry.rows,
-        kind,
-    };
-    LookedUp { refusal: 0, raster }
-}
-
-// A kind as a number.
-fn kind_number(kind: Kind) -> u32
-    ensures { result ≡ kind_number kind }
-{
-    match kind {
-        Kind::Progressive => 0,
-        Kind::TwoFields => 1,
-    }
+        kind: entry.kind,
+    })
 }
 
 // Whether a row of the table has these values.
 fn fits_entry(total: u32, active: u32, rows: u32, kind: Kind, entry: Entry) -> bool
     ensures { result ≡ fits total active rows kind entry }
 {
-    if entry.total != total as usize {
-        return false;
-    }
-    if entry.active != active as usize {
-        return false;
-    }
-    if entry.rows != rows {
-        return false;
-    }
-    let k = entry.kind;
-    kind_number(k) == kind_number(kind)
+    entry.total == total as usize
+        && entry.active == active as usize
+        && entry.rows == rows
+        && entry.kind == kind
 }
 
-// The code whose row of the table has these values, or 0.
-pub fn name(total: u32, active: u32, rows: u32, kind: Kind) -> u32
-    ensures { result ≡ name_of total active rows kind }
+// The code whose row of the table has these values, if any has.
+pub fn name(total: u32, active: u32, rows: u32, kind: Kind) -> Option<u32>
+    ensures { result ≡ named total active rows kind }
 {
-    let mut code = 1u32;
-    while code <= HIGHEST {
+    for code in 1..=HIGHEST {
         let entry = entry_at((code - 1) as usize);
         if fits_entry(total, active, rows, kind, entry) {
-            return code;
+            return Some(code);
         }
-        code += 1;
     }
-    0
+    None
 }
 
 // Whether a line is one of the lines first to last.
 fn inside(first: u32, last: u32, line: u32) -> bool
     ensures { result ≡ between first last line }
 {
-    if first <= line {
-        return line <= last;
-    }
-    false
+    (first..=last).contains(&line)
 }
 
 // V of a line of a raster with these rows and this kind.
@@ -239,18 +198,9 @@ fn v_of(rows: u32, kind: Kind, line: u32) -> bool
     ensures { result ≡ v_of rows kind line }
 {
     match kind {
-        Kind::TwoFields => {
-            if inside(21, 560, line) {
-                return false;
-            }
-            !inside(584, 1123, line)
-        }
-        Kind::Progressive => {
-            if rows == 750 {
-                return !inside(26, 745, line);
-            }
-            !inside(42, 1121, line)
-        }
+        Kind::TwoFields => !(inside(21, 560, line) || inside(584, 1123, line)),
+        Kind::Progressive if rows == 750 => !inside(26, 745, line),
+        Kind::Progressive => !inside(42, 1121, line),
     }
 }
 
@@ -258,41 +208,19 @@ fn v_of(rows: u32, kind: Kind, line: u32) -> bool
 fn f_of(kind: Kind, line: u32) -> bool
     ensures { result ≡ f_of kind line }
 {
-    match kind {
-        Kind::TwoFields => inside(564, 1125, line),
-        Kind::Progressive => false,
-    }
+    kind == Kind::TwoFields && inside(564, 1125, line)
 }
 
-// V and F of a line; 4, then 5.
-pub fn line_facts(raster: u32, line: u32) -> LineFacts
+// V and F of a line; 4, 5.
+pub fn line_facts(raster: u32, line: u32) -> Result<LineFacts, Refusal>
     ensures { result ≡ line_facts raster line }
 {
-    let looked = raster_of(raster);
-    if looked.refusal != 0 {
-        return LineFacts {
-            refusal: 4,
-            v: false,
-            f: false,
-        };
+    let found = raster_of(raster)?;
+    if !inside(1, found.rows, line) {
+        return Err(Refusal::NoLine);
     }
-    let found = looked.raster;
-    if line < 1 {
-        return LineFacts {
-            refusal: 5,
-            v: false,
-            f: false,
-        };
-    }
-    if found.rows < line {
-        return LineFacts {
-            refusal: 5,
-            v: false,
-            f: false,
-        };
-    }
-    let kind = found.kind;
-    let v = v_of(found.rows, kind, line);
-    let f = f_of(kind, line);
-    LineFacts { refusal: 0, v, f }
+    Ok(LineFacts {
+        v: v_of(found.rows, found.kind, line),
+        f: f_of(found.kind, line),
+    })
 }

@@ -1,6 +1,8 @@
 -- A bench file, a byte at a time: "Each: tag, options (raster, wipe), words; every section after its count".
-use Rattle.std.specs.Prelude.{Bool, true, false, not, ◌&&◌, ℕ, ◌+◌, ◌-◌, ◌*◌, ◌/◌, leb, ltb, eqb, replicate, set}
+use Rattle.std.specs.Prelude.{Bool, true, false, not, ◌&&◌, ℕ, ◌+◌, ◌-◌, ◌*◌, ◌/◌, leb, ltb, eqb, replicate, set, Result, Ok, Err}
 use Rattle.bits.specs.Choice.{if}
+use Rattle.refusal.specs.declared.Refusal.{Refusal}
+use Rattle.refusal.specs.declared.Refusal.TheVariants.{TooHigh, NoRaster, BadFile}
 use Rattle.raster.specs.Table.{raster_ok}
 use Rattle.reader.specs.declared.Stage.{Stage}
 use Rattle.reader.specs.declared.Stage.TheVariants.{TagCount, TagBytes, OptionsCount, RasterByte, WipeByte, WordCount, LowByte, HighByte, Stopped}
@@ -9,7 +11,7 @@ use Rattle.reader.specs.declared.Tag.{Tag}
 use Rattle.reader.specs.declared.Options.{Options}
 use Rattle.reader.specs.declared.Reader.{Reader}
 use Rattle.reader.specs.declared.Piece.{Piece}
-use Rattle.reader.specs.declared.Piece.TheVariants.{More, Chosen, Word, Refused}
+use Rattle.reader.specs.declared.Piece.TheVariants.{More, Chosen, Word}
 use Rattle.reader.specs.declared.Read.{Read}
 
 -- ---- the tests of the sections
@@ -56,10 +58,11 @@ reader stage n low t o = record { stage = stage; count = n; low = low; tag = t; 
 abbrev pub blank : Stage → Reader
 blank stage = reader stage (count 0 0) 0 no_tag (options 0 false)
 
--- before a job, and after a refusal
+-- before a job
 abbrev pub fresh : Reader
 fresh = blank TagCount
 
+-- "on a refusal .. stops"
 abbrev pub stopped : Reader
 stopped = blank Stopped
 
@@ -71,33 +74,32 @@ goes_on r stage left = reader stage (count left 0) r.low r.tag r.options
 abbrev pub chooses : Reader → Stage → Options → Reader
 chooses r stage o = reader stage (count 0 0) r.low r.tag o
 
--- ---- what a byte brings
+-- ---- what a byte brings, or why it is refused
 
-abbrev pub brings : Piece → Reader → Read
-brings piece r = record { piece = piece; ends = false; reader = r }
+abbrev pub Answer : Type 0
+Answer = Result Read Refusal
+
+abbrev pub brings : Piece → Reader → Answer
+brings piece r = Ok (record { piece = piece; ends = false; reader = r })
 
 -- the last byte of a job
-abbrev pub ends : Piece → Read
-ends piece = record { piece = piece; ends = true; reader = fresh }
-
--- "on a refusal .. stops"
-abbrev pub refused : ℕ → Read
-refused n = record { piece = Refused n; ends = false; reader = stopped }
+abbrev pub ends : Piece → Answer
+ends piece = Ok (record { piece = piece; ends = true; reader = fresh })
 
 -- "its count, 32 bits little-endian": the bytes of a count so far, in the highest places, with one more
 abbrev pub counted : ℕ → Count → ℕ
 counted b n = n.left / 256 + b * 0x1000000
 
-abbrev pub waits : Reader → ℕ → Read
+abbrev pub waits : Reader → ℕ → Answer
 waits r left = brings More (reader r.stage (count left (r.count.seen + 1)) r.low r.tag r.options)
 
 -- a byte of a count: with the fourth it is there
-abbrev pub counting : Reader → ℕ → (ℕ → Read) → Read
+abbrev pub counting : Reader → ℕ → (ℕ → Answer) → Answer
 counting r b whole = if (ltb r.count.seen 3) (waits r (counted b r.count)) (whole (counted b r.count))
 
-unfoldable pub of_tag_count : Reader → ℕ → Read
+unfoldable pub of_tag_count : Reader → ℕ → Answer
 of_tag_count r b =
-    counting r b (λ n. if (tag_size_ok n) (brings More (goes_on fresh TagBytes n)) (refused 9))
+    counting r b (λ n. if (tag_size_ok n) (brings More (goes_on fresh TagBytes n)) (Err BadFile))
 
 -- a tag with one more byte; one of 32 takes none
 unfoldable pub tag_with : ℕ → Tag → Tag
@@ -106,42 +108,42 @@ tag_with b t = if (ltb t.size 32) (record { bytes = set t.bytes t.size b; size =
 unfoldable pub tagged : Reader → ℕ → Reader
 tagged r b = reader r.stage r.count r.low (tag_with b r.tag) r.options
 
-unfoldable pub of_tag_byte : Reader → ℕ → Read
+unfoldable pub of_tag_byte : Reader → ℕ → Answer
 of_tag_byte r b =
     if (printable b)
     (brings More (if (ltb r.count.left 2) (goes_on (tagged r b) OptionsCount 0) (goes_on (tagged r b) TagBytes (r.count.left - 1))))
-    (refused 9)
+    (Err BadFile)
 
-unfoldable pub of_options_count : Reader → ℕ → Read
-of_options_count r b = counting r b (λ n. if (options_size_ok n) (brings More (goes_on r RasterByte 0)) (refused 9))
+unfoldable pub of_options_count : Reader → ℕ → Answer
+of_options_count r b = counting r b (λ n. if (options_size_ok n) (brings More (goes_on r RasterByte 0)) (Err BadFile))
 
-abbrev pub of_raster_byte : Reader → ℕ → Read
+abbrev pub of_raster_byte : Reader → ℕ → Answer
 of_raster_byte r b = brings More (chooses r WipeByte (options b false))
 
 -- 9 before 4: "the order above decides only within one section or one word"
-unfoldable pub of_wipe_byte : Reader → ℕ → Read
+unfoldable pub of_wipe_byte : Reader → ℕ → Answer
 of_wipe_byte r b =
     if (wipe_ok b)
     (if (raster_ok r.options.raster)
     (brings (Chosen r.options.raster) (chooses r WordCount (options r.options.raster (eqb b 1))))
-    (refused 4))
-    (refused 9)
+    (Err NoRaster))
+    (Err BadFile)
 
-unfoldable pub of_word_count : Reader → ℕ → Read
+unfoldable pub of_word_count : Reader → ℕ → Answer
 of_word_count r b = counting r b (λ n. if (eqb n 0) (ends More) (brings More (goes_on r LowByte n)))
 
-abbrev pub of_low_byte : Reader → ℕ → Read
+abbrev pub of_low_byte : Reader → ℕ → Answer
 of_low_byte r b = brings More (reader HighByte r.count b r.tag r.options)
 
 -- of words the unit is the word: one above 3FF is met before whatever is wrong after it
-unfoldable pub of_high_byte : Reader → ℕ → Read
+unfoldable pub of_high_byte : Reader → ℕ → Answer
 of_high_byte r b =
     let w : ℕ = word_of r.low b in
     if (word_ok w)
     (if (ltb r.count.left 2) (ends (Word w)) (brings (Word w) (goes_on r LowByte (r.count.left - 1))))
-    (refused 3)
+    (Err TooHigh)
 
-abbrev pub read_at : Stage → Reader → ℕ → Read
+abbrev pub read_at : Stage → Reader → ℕ → Answer
 read_at TagCount r b = of_tag_count r b
 read_at TagBytes r b = of_tag_byte r b
 read_at OptionsCount r b = of_options_count r b
@@ -152,7 +154,7 @@ read_at LowByte r b = of_low_byte r b
 read_at HighByte r b = of_high_byte r b
 read_at Stopped r b = brings More r
 
-unfoldable pub read_of : Reader → ℕ → Read
+unfoldable pub read_of : Reader → ℕ → Answer
 read_of r b = read_at r.stage r b
 
 -- "cut short": the input ends inside a job

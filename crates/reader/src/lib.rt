@@ -1,8 +1,10 @@
 // A bench file, a byte at a time: tag, options, words, each section after its count. Nothing is sized by a count.
 #![tactic(auto)]
 
-ghost use Rattle.std.specs.Prelude.{◌≡◌, ◌<◌};
-ghost use Rattle.reader.specs.Reader.{blank, brings, chooses, counted, ends, fresh, goes_on, is_cut, of_high_byte, of_low_byte, of_options_count, of_raster_byte, of_tag_byte, of_tag_count, of_wipe_byte, of_word_count, read_of, refused, tagged, tag_with, waits, word_of};
+ghost use Rattle.std.specs.Prelude.{◌≡◌, ◌<◌, Some, None, Ok, if◌then◌else◌, ltb};
+ghost use Rattle.reader.specs.Reader.{brings, chooses, counted, ends, fresh, goes_on, is_cut, of_high_byte, of_low_byte, of_options_count, of_raster_byte, of_tag_byte, of_tag_count, of_wipe_byte, of_word_count, read_of, stopped, tagged, tag_with, waits, word_of};
+
+use refusal::Refusal;
 
 // What the next byte is of.
 #[derive(Clone, Copy)]
@@ -25,6 +27,7 @@ pub struct Count {
     pub seen: u8,
 }
 
+// The first `size` bytes are the tag. Nothing is allocated, and a job holds its tag by value: so the room is of one size.
 #[derive(Clone, Copy)]
 pub struct Tag {
     pub bytes: [u8; 32],
@@ -47,13 +50,12 @@ pub struct Reader {
     pub options: Options,
 }
 
-// What a byte completes: nothing of these; the options, with their raster; a word; or it is refused.
+// What a byte completes: nothing of these; the options, with their raster; a word.
 #[derive(Clone, Copy)]
 pub enum Piece {
     More,
     Chosen(u8),
     Word(u16),
-    Refused(u8),
 }
 
 // ends: the byte was the last of a job.
@@ -64,36 +66,8 @@ pub struct Read {
     pub reader: Reader,
 }
 
-// A reader with nothing of any job.
-fn blank_at(stage: Stage) -> Reader
-    ensures { result ≡ blank stage }
-{
-    let tag = Tag {
-        bytes: [0; 32],
-        size: 0,
-    };
-    let options = Options {
-        raster: 0,
-        wipe: false,
-    };
-    let count = Count { left: 0, seen: 0 };
-    Reader {
-        stage,
-        count,
-        low: 0,
-        tag,
-        options,
-    }
-}
-
-fn word_of(low: u8, high: u8) -> u16
-    ensures { result ≡ word_of low high }
-{
-    low as u16 + high as u16 * 256
-}
-
 fn bring(piece: Piece, reader: Reader) -> Read
-    ensures { result ≡ brings piece reader }
+    ensures { Ok result ≡ brings piece reader }
 {
     Read {
         piece,
@@ -103,7 +77,7 @@ fn bring(piece: Piece, reader: Reader) -> Read
 }
 
 fn end(piece: Piece) -> Read
-    ensures { result ≡ ends piece }
+    ensures { Ok result ≡ ends piece }
 {
     Read {
         piece,
@@ -112,35 +86,43 @@ fn end(piece: Piece) -> Read
     }
 }
 
-fn refuse(number: u8) -> Read
-    ensures { result ≡ refused number }
-{
-    bring(Piece::Refused(number), blank_at(Stage::Stopped))
-}
-
 impl Count {
+    // No byte of a count is there, and so many of its section are left.
+    fn of(left: u32) -> Count
+        ensures { result ≡ record { left = left; seen = 0 } }
+    {
+        Count { left, seen: 0 }
+    }
+
     // The bytes so far and one more, lowest first: after four of them the count.
     fn with(self, byte: u8) -> u32
         ensures { result ≡ counted byte self }
     {
-        self.left / 256 + byte as u32 * 0x1000000
+        self.left / 256 + u32::from(byte) * 0x1000000
+    }
+
+    // The whole count, if this is its fourth byte.
+    fn whole(self, byte: u8) -> Option<u32>
+        ensures { result ≡ (if ltb self.seen 3 then None else Some (counted byte self)) }
+    {
+        if self.seen < 3 {
+            return None;
+        }
+        Some(self.with(byte))
     }
 }
 
 impl Tag {
-    fn with(self, byte: u8) -> Tag
+    // A full tag takes no byte.
+    #[tactic(auto, unfolding(crate::specs::Reader::tag_with))]
+    fn with(mut self, byte: u8) -> Tag
         ensures { result ≡ tag_with byte self }
     {
-        let at = self.size as usize;
-        if 32 <= at {
-            return self;
+        if self.size < 32 {
+            self.bytes[usize::from(self.size)] = byte;
+            self.size += 1;
         }
-        let mut bytes = self.bytes;
-        bytes[at] = byte;
-        Tag {
-            bytes,
-            size: self.size + 1,
-        }
+        self
     }
 }
 
@@ -149,22 +131,39 @@ impl Reader {
     pub fn fresh() -> Reader
         ensures { result ≡ fresh }
     {
-        blank_at(Stage::TagCount)
+        Reader {
+            stage: Stage::TagCount,
+            count: Count::of(0),
+            low: 0,
+            tag: Tag {
+                bytes: [0; 32],
+                size: 0,
+            },
+            options: Options {
+                raster: 0,
+                wipe: false,
+            },
+        }
+    }
+
+    // After a refusal.
+    pub fn stopped() -> Reader
+        ensures { result ≡ stopped }
+    {
+        Reader {
+            stage: Stage::Stopped,
+            ..Reader::fresh()
+        }
     }
 
     // The same job at another stage, so many of a section being left.
     fn go_on(self, stage: Stage, left: u32) -> Reader
         ensures { result ≡ goes_on self stage left }
     {
-        let count = Count { left, seen: 0 };
-        let tag = self.tag;
-        let options = self.options;
         Reader {
             stage,
-            count,
-            low: self.low,
-            tag,
-            options,
+            count: Count::of(left),
+            ..self
         }
     }
 
@@ -172,105 +171,81 @@ impl Reader {
     fn choose(self, stage: Stage, options: Options) -> Reader
         ensures { result ≡ chooses self stage options }
     {
-        let count = Count { left: 0, seen: 0 };
-        let tag = self.tag;
         Reader {
             stage,
-            count,
-            low: self.low,
-            tag,
+            count: Count::of(0),
             options,
+            ..self
         }
-    }
-
-    // One of the first three bytes of a count, which are `left` with it.
-    fn wait(self, left: u32) -> Read
-        requires { self.count.seen < 3 }
-        ensures { result ≡ waits self left }
-    {
-        let count = Count {
-            left,
-            seen: self.count.seen + 1,
-        };
-        let stage = self.stage;
-        let tag = self.tag;
-        let options = self.options;
-        let reader = Reader {
-            stage,
-            count,
-            low: self.low,
-            tag,
-            options,
-        };
-        bring(Piece::More, reader)
     }
 
     // The same job with a byte more of its tag.
+    #[tactic(auto, unfolding(crate::specs::Reader::tagged))]
     fn tagged(self, byte: u8) -> Reader
         ensures { result ≡ tagged self byte }
     {
-        let stage = self.stage;
-        let count = self.count;
-        let tag = self.tag.with(byte);
-        let options = self.options;
         Reader {
-            stage,
-            count,
-            low: self.low,
-            tag,
-            options,
+            tag: self.tag.with(byte),
+            ..self
         }
+    }
+
+    // One of the first three bytes of a count.
+    fn wait(self, byte: u8) -> Read
+        requires { self.count.seen < 3 }
+        ensures { Ok result ≡ waits self (counted byte self.count) }
+    {
+        let count = Count {
+            left: self.count.with(byte),
+            seen: self.count.seen + 1,
+        };
+        bring(Piece::More, Reader { count, ..self })
     }
 
     // A byte of each stage.
-    fn of_tag_count(self, byte: u8) -> Read
+    #[tactic(auto, unfolding(crate::specs::Reader::of_tag_count))]
+    fn of_tag_count(self, byte: u8) -> Result<Read, Refusal>
         ensures { result ≡ of_tag_count self byte }
     {
-        let left = self.count.with(byte);
-        if self.count.seen < 3 {
-            return self.wait(left);
+        let Some(size) = self.count.whole(byte) else {
+            return Ok(self.wait(byte));
+        };
+        if !matches!(size, 1..=32) {
+            return Err(Refusal::BadFile);
         }
-        if left < 1 {
-            return refuse(9);
-        }
-        if 32 < left {
-            return refuse(9);
-        }
-        bring(Piece::More, Reader::fresh().go_on(Stage::TagBytes, left))
+        Ok(bring(Piece::More, Reader::fresh().go_on(Stage::TagBytes, size)))
     }
 
-    fn of_tag_byte(self, byte: u8) -> Read
+    #[tactic(auto, unfolding(crate::specs::Reader::of_tag_byte))]
+    fn of_tag_byte(self, byte: u8) -> Result<Read, Refusal>
         ensures { result ≡ of_tag_byte self byte }
     {
-        if byte < 0x21 {
-            return refuse(9);
-        }
-        if 0x7e < byte {
-            return refuse(9);
+        if !byte.is_ascii_graphic() {
+            return Err(Refusal::BadFile);
         }
         let left = self.count.left;
         let reader = self.tagged(byte);
         if left < 2 {
-            return bring(Piece::More, reader.go_on(Stage::OptionsCount, 0));
+            return Ok(bring(Piece::More, reader.go_on(Stage::OptionsCount, 0)));
         }
-        bring(Piece::More, reader.go_on(Stage::TagBytes, left - 1))
+        Ok(bring(Piece::More, reader.go_on(Stage::TagBytes, left - 1)))
     }
 
-    fn of_options_count(self, byte: u8) -> Read
+    #[tactic(auto, unfolding(crate::specs::Reader::of_options_count))]
+    fn of_options_count(self, byte: u8) -> Result<Read, Refusal>
         ensures { result ≡ of_options_count self byte }
     {
-        let left = self.count.with(byte);
-        if self.count.seen < 3 {
-            return self.wait(left);
+        let Some(size) = self.count.whole(byte) else {
+            return Ok(self.wait(byte));
+        };
+        if size != 2 {
+            return Err(Refusal::BadFile);
         }
-        if left != 2 {
-            return refuse(9);
-        }
-        bring(Piece::More, self.go_on(Stage::RasterByte, 0))
+        Ok(bring(Piece::More, self.go_on(Stage::RasterByte, 0)))
     }
 
     fn of_raster_byte(self, byte: u8) -> Read
-        ensures { result ≡ of_raster_byte self byte }
+        ensures { Ok result ≡ of_raster_byte self byte }
     {
         let options = Options {
             raster: byte,
@@ -280,102 +255,90 @@ impl Reader {
     }
 
     // 9 before 4.
-    fn of_wipe_byte(self, byte: u8) -> Read
+    #[tactic(auto, using(raster::proofs::Table::looked_up_none, raster::proofs::Table::looked_up_found), unfolding(crate::specs::Reader::of_wipe_byte))]
+    fn of_wipe_byte(self, byte: u8) -> Result<Read, Refusal>
         ensures { result ≡ of_wipe_byte self byte }
     {
         let raster = self.options.raster;
-        if 1 < byte {
-            return refuse(9);
-        }
-        if raster::raster_of(raster as u32).refusal != 0 {
-            return refuse(4);
-        }
-        let options = Options {
-            raster,
-            wipe: byte == 1,
+        let wipe = match byte {
+            0 => false,
+            1 => true,
+            _ => return Err(Refusal::BadFile),
         };
-        bring(
+        raster::raster_of(u32::from(raster))?;
+        let options = Options { raster, wipe };
+        Ok(bring(
             Piece::Chosen(raster),
             self.choose(Stage::WordCount, options),
-        )
+        ))
     }
 
-    fn of_word_count(self, byte: u8) -> Read
+    #[tactic(auto, unfolding(crate::specs::Reader::of_word_count))]
+    fn of_word_count(self, byte: u8) -> Result<Read, Refusal>
         ensures { result ≡ of_word_count self byte }
     {
-        let left = self.count.with(byte);
-        if self.count.seen < 3 {
-            return self.wait(left);
+        let Some(count) = self.count.whole(byte) else {
+            return Ok(self.wait(byte));
+        };
+        if count == 0 {
+            return Ok(end(Piece::More));
         }
-        if left == 0 {
-            return end(Piece::More);
-        }
-        bring(Piece::More, self.go_on(Stage::LowByte, left))
+        Ok(bring(Piece::More, self.go_on(Stage::LowByte, count)))
     }
 
     fn of_low_byte(self, byte: u8) -> Read
-        ensures { result ≡ of_low_byte self byte }
+        ensures { Ok result ≡ of_low_byte self byte }
     {
-        let count = self.count;
-        let tag = self.tag;
-        let options = self.options;
         let reader = Reader {
             stage: Stage::HighByte,
-            count,
             low: byte,
-            tag,
-            options,
+            ..self
         };
         bring(Piece::More, reader)
     }
 
-    fn of_high_byte(self, byte: u8) -> Read
+    #[tactic(auto, unfolding(crate::specs::Reader::of_high_byte))]
+    fn of_high_byte(self, byte: u8) -> Result<Read, Refusal>
         ensures { result ≡ of_high_byte self byte }
     {
-        let word = word_of(self.low, byte);
+        let word = u16::from_le_bytes([self.low, byte]);
         if 0x3ff < word {
-            return refuse(3);
+            return Err(Refusal::TooHigh);
         }
         let left = self.count.left;
         if left < 2 {
-            return end(Piece::Word(word));
+            return Ok(end(Piece::Word(word)));
         }
-        bring(Piece::Word(word), self.go_on(Stage::LowByte, left - 1))
+        Ok(bring(Piece::Word(word), self.go_on(Stage::LowByte, left - 1)))
     }
 
-    // Takes a byte.
-    pub fn read(self, byte: u8) -> Read
+    // Takes a byte; 9, 4, 3. After a refusal nothing of the file is read: the reader is then `stopped`.
+    #[tactic(auto, unfolding(crate::specs::Reader::read_of))]
+    pub fn read(self, byte: u8) -> Result<Read, Refusal>
         ensures { result ≡ read_of self byte }
     {
-        let stage = self.stage;
-        match stage {
+        match self.stage {
             Stage::TagCount => self.of_tag_count(byte),
             Stage::TagBytes => self.of_tag_byte(byte),
             Stage::OptionsCount => self.of_options_count(byte),
-            Stage::RasterByte => self.of_raster_byte(byte),
+            Stage::RasterByte => Ok(self.of_raster_byte(byte)),
             Stage::WipeByte => self.of_wipe_byte(byte),
             Stage::WordCount => self.of_word_count(byte),
-            Stage::LowByte => self.of_low_byte(byte),
+            Stage::LowByte => Ok(self.of_low_byte(byte)),
             Stage::HighByte => self.of_high_byte(byte),
-            Stage::Stopped => bring(Piece::More, self),
+            Stage::Stopped => Ok(bring(Piece::More, self)),
         }
     }
 
     // Whether a file that ends here is cut short.
+    #[tactic(auto, unfolding(crate::specs::Reader::is_cut))]
     pub fn is_cut(self) -> bool
         ensures { result ≡ is_cut self }
     {
-        let stage = self.stage;
-        match stage {
+        match self.stage {
             Stage::TagCount => self.count.seen != 0,
-            Stage::TagBytes => true,
-            Stage::OptionsCount => true,
-            Stage::RasterByte => true,
-            Stage::WipeByte => true,
-            Stage::WordCount => true,
-            Stage::LowByte => true,
-            Stage::HighByte => true,
             Stage::Stopped => false,
+            _ => true,
         }
     }
 }

@@ -3,7 +3,7 @@ use mathlib.Core.Path.{◌≡◌, refl, sym, ap, ap₂, ◌∙◌}
 use mathlib.Core.Bool.{Bool, true, false, ◌||◌, or-true}
 use mathlib.Core.List.{List, [], ◌∷◌, ◌++◌, append_assoc, append-nil}
 use mathlib.Core.Logic.{◌⊎◌, inl, inr}
-use mathlib.Core.Option.{Option, none, some}
+use Rattle.std.specs.Prelude.{Option, None, Some}
 use Prim.Native.Nat.{ℕ, ◌+◌, ◌-◌, ◌/◌, ◌%◌, ◌^◌, ◌≤◌, ◌<◌}
 use native.Mathlib.Omega.{arith}
 use native.Mathlib.Decide.{dec_lt, dec_le}
@@ -149,8 +149,8 @@ pub record Awaited (bs : List Bool) (n : ℕ) : Type 0 where
 pub record Tied (bs : List Bool) (w : Window) : Type 0 where
   pub last : w.last ≡ last_of bs
   pub ahead : (w.ahead ≡ 0) ⊎ Awaited bs w.ahead
-  pub unseen : w.seen ≡ false → first_place (sync_of hd_unit) bs ≡ none
-  pub has_sync : w.seen ≡ true → (first_place (sync_of hd_unit) bs ≡ none → ⊥)
+  pub unseen : w.seen ≡ false → first_place (sync_of hd_unit) bs ≡ None
+  pub has_sync : w.seen ≡ true → (first_place (sync_of hd_unit) bs ≡ None → ⊥)
 
 abbrev pub start_window : Window
 start_window = record { last = 0; ahead = 0; seen = false }
@@ -160,7 +160,7 @@ unfolding number first_place
 tied_start = record { last = refl; ahead = inl refl; unseen = λ e. refl; has_sync = λ e. absurd (false_not_true e) }
 
 -- a stream that ends in a sync holds one
-has_sync_at_end : (bs : List Bool) → EndsInSync bs → first_place (sync_of hd_unit) bs ≡ none → ⊥
+has_sync_at_end : (bs : List Bool) → EndsInSync bs → first_place (sync_of hd_unit) bs ≡ None → ⊥
 has_sync_at_end bs e n =
     false_not_true
     (sym (none_means_none true (drop 1 (sync_of hd_unit)) bs n (length e.pre))
@@ -169,35 +169,35 @@ has_sync_at_end bs e n =
     ∙ starts_of_append (sync_of hd_unit) [])
 
 -- one bit more: a sync that was there stays
-has_sync_before : (bs : List Bool) (b : Bool) → (first_place (sync_of hd_unit) bs ≡ none → ⊥)
-    → first_place (sync_of hd_unit) (bs ++ (b ∷ [])) ≡ none → ⊥
+has_sync_before : (bs : List Bool) (b : Bool) → (first_place (sync_of hd_unit) bs ≡ None → ⊥)
+    → first_place (sync_of hd_unit) (bs ++ (b ∷ [])) ≡ None → ⊥
 has_sync_before bs b g n = go (first_place (sync_of hd_unit) bs) refl
   where
     go : (o : Option ℕ) → first_place (sync_of hd_unit) bs ≡ o → ⊥
-    go none e = g e
-    go (some p) e = no_place (sym n ∙ first_of_append (sync_of hd_unit) bs (b ∷ []) p e)
+    go None e = g e
+    go (Some p) e = no_place (sym n ∙ first_of_append (sync_of hd_unit) bs (b ∷ []) p e)
 
 -- .. and one that was not there ends at the bit
-first_at_end : (bs : List Bool) (p : ℕ) → first_place (sync_of hd_unit) bs ≡ some p → length bs ≤ p + 60 → bs ≡ take p bs ++ sync_of hd_unit
+first_at_end : (bs : List Bool) (p : ℕ) → first_place (sync_of hd_unit) bs ≡ Some p → length bs ≤ p + 60 → bs ≡ take p bs ++ sync_of hd_unit
 first_at_end bs p e l =
     sym (take-append-drop p bs)
     ∙ ap (λ (v : List Bool). take p bs ++ v)
     (sym (take_all 60 (drop p bs) (omega (arith, length-drop p bs))) ∙ (first_is_sync (sync_of hd_unit) bs p e).0)
 
-unseen_after : (bs : List Bool) (b : Bool) → first_place (sync_of hd_unit) bs ≡ none → is_sync (last_of (bs ++ (b ∷ []))) ≡ false
-    → first_place (sync_of hd_unit) (bs ++ (b ∷ [])) ≡ none
+unseen_after : (bs : List Bool) (b : Bool) → first_place (sync_of hd_unit) bs ≡ None → is_sync (last_of (bs ++ (b ∷ []))) ≡ false
+    → first_place (sync_of hd_unit) (bs ++ (b ∷ [])) ≡ None
 unseen_after bs b n h = go (first_place (sync_of hd_unit) (bs ++ (b ∷ []))) refl
   where
-    at : (p : ℕ) → first_place (sync_of hd_unit) (bs ++ (b ∷ [])) ≡ some p → Dec (p + 60 ≤ length bs) → ⊥
+    at : (p : ℕ) → first_place (sync_of hd_unit) (bs ++ (b ∷ [])) ≡ Some p → Dec (p + 60 ≤ length bs) → ⊥
     at p e (yes l) = no_place (sym n ∙ first_before_append true (drop 1 (sync_of hd_unit)) bs (b ∷ []) p l e)
     at p e (no g) =
         let cs = bs ++ (b ∷ []) in
         let split = first_at_end cs p e (omega (arith, length-append bs (b ∷ []))) in
         false_not_true (sym h ∙ ap (λ (l : List Bool). is_sync (last_of l)) split ∙ is_sync_of_sync (take p cs))
 
-    go : (o : Option ℕ) → first_place (sync_of hd_unit) (bs ++ (b ∷ [])) ≡ o → o ≡ none
-    go none e = refl
-    go (some p) e = absurd (at p e (dec_le (p + 60) (length bs)))
+    go : (o : Option ℕ) → first_place (sync_of hd_unit) (bs ++ (b ∷ [])) ≡ o → o ≡ None
+    go None e = refl
+    go (Some p) e = absurd (at p e (dec_le (p + 60) (length bs)))
 
 -- an XYZ pair's next bit
 awaited_after : (bs : List Bool) (n : ℕ) (b : Bool) → (n ≡ 0) ⊎ Awaited bs n → (n - 1 ≡ 0) ⊎ Awaited (bs ++ (b ∷ [])) (n - 1)

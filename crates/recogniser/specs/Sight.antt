@@ -1,11 +1,11 @@
 -- What is seen of the unscrambled bits: the last sixty, and the words and the sync that stand in them.
-use Rattle.std.specs.Prelude.{Bool, false, ◌||◌, ℕ, ◌-◌, ◌/◌, ◌%◌, eqb}
+use Rattle.std.specs.Prelude.{Bool, false, ◌||◌, ℕ, ◌-◌, ◌/◌, ◌%◌, eqb, Option, None, Some, Result, Ok, Err}
 use Rattle.bits.specs.Choice.{if}
 use Rattle.bits.specs.Bits.{number}
 use Rattle.raster.specs.Layout.{sync_of, hd_unit}
 use Rattle.align.specs.Search.{slid}
-use Rattle.timing.specs.declared.Timing.{Timing}
-use Rattle.timing.specs.declared.Timing.TheVariants.{Refused, Inexact, Exact}
+use Rattle.refusal.specs.declared.Refusal.{Refusal}
+use Rattle.timing.specs.declared.Fvh.{Fvh}
 use Rattle.timing.specs.Xyz.{read_xyz}
 use Rattle.recogniser.specs.declared.Window.{Window}
 use Rattle.recogniser.specs.declared.Words.{Words}
@@ -25,10 +25,10 @@ abbrev pub last_pair : ℕ → Words
 last_pair last = record { c = c_word last; y = y_word last }
 
 -- "an exact EAV code", "H is 1 in EAV"
-abbrev pub eav_read : Timing → Bool
-eav_read Refused = false
-eav_read Inexact = false
-eav_read (Exact f v h) = h
+abbrev pub eav_read : Result (Option Fvh) Refusal → Bool
+eav_read (Err refusal) = false
+eav_read (Ok None) = false
+eav_read (Ok (Some code)) = code.h
 
 unfoldable pub is_eav : ℕ → Bool
 is_eav w = eav_read (read_xyz w)

@@ -7,7 +7,7 @@ ghost use Rattle.recogniser.specs.Sight.{is_eav, last_pair, window_after};
 ghost use Rattle.recogniser.specs.Event.{eav_ends, is_fourth, looked, place, seen_at};
 
 use align::SYNC;
-use timing::Timing;
+use timing::Fvh;
 
 // The end of the stream: its last sixty bits as a number, oldest lowest; how many bits of a sync's XYZ pair are still to come;
 // whether a sync was seen.
@@ -18,11 +18,26 @@ pub struct Window {
     pub seen: bool,
 }
 
-// How far the open row has come: pairs that have ended (0 where no row is open), bits of the next pair.
+// How far the open row has come: pairs that have ended, bits of the next pair. Both are numbers of the session (docs/SESSION.md): where no row is
+// open they are 0, and there is no None.
 #[derive(Clone, Copy)]
 pub struct Place {
     pub pairs: usize,
     pub bit: u8,
+}
+
+impl Place {
+    // Where no row is open.
+    pub const NOWHERE: Place = Place { pairs: 0, bit: 0 };
+
+    // Where a row has just been opened, its EAV's four pairs being there.
+    pub const OPENED: Place = Place { pairs: 4, bit: 0 };
+
+    fn new(pairs: usize, bit: u8) -> Place
+        ensures { result ≡ place pairs bit }
+    {
+        Place { pairs, bit }
+    }
 }
 
 #[derive(Clone, Copy)]
@@ -62,10 +77,7 @@ pub struct Looked {
 fn slide(last: u64, bit: bool) -> u64
     ensures { result ≡ slid last bit }
 {
-    if bit {
-        return last / 2 + 0x800000000000000;
-    }
-    last / 2
+    last / 2 + u64::from(bit) * 0x800000000000000
 }
 
 // The words of the last twenty bits.
@@ -79,50 +91,34 @@ pub fn last_pair(last: u64) -> Words
 }
 
 // Whether an XYZ word is an EAV's.
+#[tactic(auto, unfolding(crate::specs::Sight::is_eav))]
 fn is_eav(word: u16) -> bool
     ensures { result ≡ is_eav word }
 {
-    match timing::read_xyz(word) {
-        Timing::Refused => false,
-        Timing::Inexact => false,
-        Timing::Exact(_f, _v, h) => h,
-    }
+    matches!(timing::read_xyz(word), Ok(Some(Fvh { h: true, .. })))
 }
 
 // Whether an XYZ pair ends, of which so many bits were still to come, and is an EAV's.
 fn eav_ends(ahead: u8, last: u64) -> bool
     ensures { result ≡ eav_ends ahead last }
 {
-    if ahead != 1 {
-        return false;
-    }
-    is_eav(last_pair(last).y)
+    ahead == 1 && is_eav(last_pair(last).y)
 }
 
 // The stream with one bit more.
+#[tactic(auto, using(crate::proofs::Events::sync_number), unfolding(crate::specs::Sight::window_after))]
 fn hear(window: Window, bit: bool) -> Window
     ensures { result ≡ window_after bit window }
 {
     let last = slide(window.last, bit);
-    if last == SYNC {
-        return Window {
-            last,
-            ahead: 20,
-            seen: true,
-        };
-    }
-    if window.ahead == 0 {
-        return Window {
-            last,
-            ahead: 0,
-            seen: window.seen,
-        };
-    }
-    Window {
-        last,
-        ahead: window.ahead - 1,
-        seen: window.seen,
-    }
+    let sync = last == SYNC;
+    let ahead = if sync {
+        20
+    } else {
+        window.ahead.saturating_sub(1)
+    };
+    let seen = window.seen || sync;
+    Window { last, ahead, seen }
 }
 
 // Whether the pair that ends next is the fourth after the T-th. Nothing else here reads T.
@@ -133,43 +129,43 @@ fn is_fourth(total: u32, pairs: usize) -> bool
 }
 
 // An event, and what is seen after it.
-fn seen(event: Event, window: Window, pairs: usize, bit: u8) -> Looked
-    ensures { result ≡ seen_at event window (place pairs bit) }
+fn seen(event: Event, window: Window, place: Place) -> Looked
+    ensures { result ≡ seen_at event window place }
 {
-    let place = Place { pairs, bit };
     let sight = Sight { window, place };
     Looked { event, sight }
 }
 
-// What a bit completes where rows have T pairs, and what is seen then.
+// What a bit completes where rows have T pairs, and what is seen then. Each case returns by itself, for speed: as one value of all cases, the place
+// is copied through memory at every bit.
+#[tactic(auto, using(crate::proofs::Events::sync_number), unfolding(crate::specs::Event::looked, crate::specs::Event::event_of))]
 pub fn look(sight: Sight, bit: bool, total: u32) -> Looked
     ensures { result ≡ looked total bit sight }
 {
     let window = hear(sight.window, bit);
     let eav = eav_ends(sight.window.ahead, window.last);
-    let pairs = sight.place.pairs;
+    let Place { pairs, bit: at } = sight.place;
     if pairs == 0 {
         if eav {
-            return seen(Event::Opens, window, 4, 0);
+            return seen(Event::Opens, window, Place::OPENED);
         }
-        return seen(Event::Outside, window, 0, 0);
+        return seen(Event::Outside, window, Place::NOWHERE);
     }
     let fourth = is_fourth(total, pairs);
     if eav {
         if fourth {
-            return seen(Event::Whole, window, 4, 0);
+            return seen(Event::Whole, window, Place::OPENED);
         }
-        return seen(Event::Early, window, 4, 0);
+        return seen(Event::Early, window, Place::OPENED);
     }
-    let at = sight.place.bit;
     if at < 19 {
         if window.last == SYNC {
-            return seen(Event::Astray, window, 0, 0);
+            return seen(Event::Astray, window, Place::NOWHERE);
         }
-        return seen(Event::Within, window, pairs, at + 1);
+        return seen(Event::Within, window, Place::new(pairs, at + 1));
     }
     if fourth {
-        return seen(Event::Late, window, 0, 0);
+        return seen(Event::Late, window, Place::NOWHERE);
     }
-    seen(Event::Pair, window, pairs + 1, 0)
+    seen(Event::Pair, window, Place::new(pairs + 1, 0))
 }

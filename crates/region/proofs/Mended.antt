@@ -13,12 +13,9 @@ use Rattle.scan.specs.Scan.{Piece, Word, Marker, Packet, words_of, piece_at, sca
 use Rattle.scan.proofs.Packets.{fits-room}
 use Rattle.scan.proofs.Pieces.{piece_at_cases}
 use Rattle.scan.proofs.Remade.{on_packets, scan_of_changed}
-use Rattle.region.specs.Region.{mend_piece, mended}
+use Rattle.region.specs.Region.{mend_packet, mend_piece, mended}
 
 -- ---- one packet
-
-abbrev pub mend_packet : List ℕ → List ℕ
-mend_packet p = mend_piece (Packet p)
 
 module _ (p : List ℕ) where
   mend_packet_head : take 6 (mend_packet p) ≡ take 6 p

@@ -1,93 +1,51 @@
 // The regions of a stream that may hold packets: scanned, and their packets changed in place.
 #![tactic(auto)]
 
-ghost use Rattle.std.specs.Prelude.{◌≡◌};
+ghost use Rattle.std.specs.Prelude.{◌≡◌, ℕ, List, length};
+ghost use Rattle.std.specs.Borrow.{MutBor};
 ghost use Rattle.parts.specs.Parts.{in_part};
+ghost use Rattle.scan.specs.Packet.{size_of};
 ghost use Rattle.scan.specs.Scan.{scanned};
-ghost use Rattle.region.specs.Region.{mended, wiped};
+ghost use Rattle.region.specs.Region.{ChangesBy, changed, mend_packet, mended, wiped};
 ghost use Rattle.region.specs.Ancillary.{active_region, ancillary};
 
 use plan::Plan;
-use scan::{Here, Scanned};
+use scan::Scanned;
 
 // Makes the checksums right in a part of a slice, as `parts::part` cuts it.
 pub fn mend(words: &mut [u16], from: usize, count: usize)
     ensures { words.new ≡ in_part from count mended words.old }
 {
-    let n = words.len();
-    if n <= from {
-        return;
-    }
-    if n - from <= count {
-        mend_region(&mut words[from..n]);
-        return;
-    }
-    mend_region(&mut words[from..from + count]);
-}
-
-// Makes the checksums of a whole region right.
-fn mend_region(region: &mut [u16])
-    ensures { region.new ≡ mended region.old }
-{
-    let mut i = 0;
-    'scan: while i < region.len() {
-        let here = scan::here_at(region, i);
-        match here {
-            Here::Nothing => {
-                i += 1;
-                continue 'scan;
-            }
-            Here::Cut => {
-                i += 3;
-                continue 'scan;
-            }
-            Here::Whole(size) => {
-                let right = scan::checksum(parts::part(region, i + 3, size - 4));
-                bits::put(region, i + size - 1, right);
-                i += size;
-                continue 'scan;
-            }
-        }
-    }
+    change_packets(words, from, count, mend_packet);
 }
 
 // Overwrites the whole packets that one scan finds in a part of a slice, as `parts::part` cuts it, with a blanking word.
 pub fn wipe(words: &mut [u16], from: usize, count: usize, blank: u16)
     ensures { words.new ≡ in_part from count (wiped blank) words.old }
 {
-    let n = words.len();
-    if n <= from {
-        return;
-    }
-    if n - from <= count {
-        wipe_region(&mut words[from..n], blank);
-        return;
-    }
-    wipe_region(&mut words[from..from + count], blank);
+    change_packets(words, from, count, |packet: &mut [u16]| packet.fill(blank));
 }
 
-// Overwrites the whole packets of a whole region.
-fn wipe_region(region: &mut [u16], blank: u16)
-    ensures { region.new ≡ wiped blank region.old }
+// Makes the checksum of a whole packet right.
+fn mend_packet(packet: &mut [u16])
+    requires { size_of packet.old ≡ length packet.old }
+    ensures { packet.new ≡ mend_packet packet.old }
 {
-    let mut i = 0;
-    'scan: while i < region.len() {
-        let here = scan::here_at(region, i);
-        match here {
-            Here::Nothing => {
-                i += 1;
-                continue 'scan;
-            }
-            Here::Cut => {
-                i += 3;
-                continue 'scan;
-            }
-            Here::Whole(size) => {
-                parts::fill(region, i, size, blank);
-                i += size;
-                continue 'scan;
-            }
-        }
+    let last = packet.len() - 1;
+    packet[last] = scan::checksum(&packet[3..last]);
+}
+
+// Changes each whole packet that one scan finds in a part of a slice, as `parts::part` cuts it.
+fn change_packets<F: Fn(&mut [u16])>(words: &mut [u16], from: usize, count: usize, change: F)
+    requires { (packet : MutBor (List ℕ)) → size_of packet.now ≡ length packet.now → F.pre change packet }
+    ensures { (f : List ℕ → List ℕ) → ChangesBy F.Fn change f → words.new ≡ in_part from count (changed f) words.old }
+{
+    let here = parts::range(words.len(), from, count);
+    let region = &mut words[here];
+    let mut at = 0;
+    while let Some(packet) = scan::next_packet(region, at) {
+        at = packet.end;
+        change(&mut region[packet]);
     }
 }
 

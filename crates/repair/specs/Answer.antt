@@ -1,13 +1,12 @@
 -- Correction of a row of two streams: the row, and the answer.
-use Rattle.std.specs.Prelude.{Bool, List, ℕ, zero, suc}
+use Rattle.std.specs.Prelude.{Bool, List, ℕ, Result}
+use Rattle.refusal.specs.declared.Refusal.{Refusal}
+use Rattle.refusal.specs.Refusal.{result_of}
 use Rattle.plan.specs.declared.Plan.{Plan}
 use Rattle.plan.specs.Plan.{plan_of}
 use Rattle.stream.specs.Words.{y_blank, c_blank}
-use Rattle.row.specs.declared.Carry.{Carry}
-use Rattle.row.specs.declared.Carry.TheVariants.{Nothing}
-use Rattle.row.specs.Before.{carried}
+use Rattle.row.specs.Before.{Carry, carried}
 use Rattle.row.specs.Row.{check_refusal, carry_after}
-use Rattle.repair.specs.declared.Corrected.{Corrected}
 use Rattle.repair.specs.Repair.{corrected_stream}
 
 -- the rows after correction, where it is not refused
@@ -18,11 +17,7 @@ abbrev pub corrected_c : Plan → Carry → Bool → List ℕ → List ℕ
 corrected_c p carry wipe c = corrected_stream p wipe c_blank (carried carry).known (carried carry).c c
 
 -- "check, correction and building answer the next [carry]"; a row is refused as where it is checked
-abbrev pub corrected_for : ℕ → Carry → Corrected
-corrected_for zero next = record { refusal = 0; carry = next }
-corrected_for (suc n) next = record { refusal = suc n; carry = Nothing }
-
-unfoldable pub corrected : ℕ → ℕ → Carry → Bool → List ℕ → List ℕ → Corrected
+unfoldable pub corrected : ℕ → ℕ → Carry → Bool → List ℕ → List ℕ → Result Carry Refusal
 corrected code line carry wipe y c =
-    corrected_for (check_refusal code line carry y c)
+    result_of (check_refusal code line carry y c)
     (carry_after (plan_of code line) (corrected_y (plan_of code line) carry wipe y) (corrected_c (plan_of code line) carry wipe c))

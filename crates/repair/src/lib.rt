@@ -1,25 +1,20 @@
 // Correction of a row in place.
 #![tactic(auto)]
 
-ghost use Rattle.std.specs.Prelude.{◌≡◌};
+ghost use Rattle.std.specs.Prelude.{◌≡◌, is_some, unwrap_or};
 ghost use Rattle.plan.specs.Plan.{plan_of};
-ghost use Rattle.stream.specs.Words.{y_blank, c_blank};
 ghost use Rattle.row.specs.Row.{carry_after, check_refusal};
-ghost use Rattle.repair.specs.Repair.{with_crc, corrected_stream, put_right, with_sums, with_codes, wiped_if};
+ghost use Rattle.repair.specs.Repair.{with_crc, put_right, with_sums, with_codes, wiped_if};
 ghost use Rattle.parts.specs.Parts.{unless_refused};
-ghost use Rattle.repair.specs.Answer.{corrected, corrected_c, corrected_for, corrected_y};
+ghost use Rattle.repair.specs.Answer.{corrected, corrected_c, corrected_y};
 
 use plan::Plan;
-use row::{Before, Carry};
+use refusal::Refusal;
+use row::{Carry, Registers};
 use stream::{C_BLANK, Y_BLANK};
 
-#[derive(Clone, Copy)]
-pub struct Corrected {
-    pub refusal: u8,
-    pub carry: Carry,
-}
-
 // Where wiping is chosen, overwrites with blanking the whole packets that one scan finds in a stream.
+#[tactic(auto, unfolding(crate::specs::Repair::wiped_if, region::specs::Ancillary::in_regions))]
 fn wipe(chosen: bool, plan: Plan, blank: u16, words: &mut [u16])
     ensures { words.new ≡ wiped_if chosen plan blank words.old }
 {
@@ -33,6 +28,7 @@ fn wipe(chosen: bool, plan: Plan, blank: u16, words: &mut [u16])
 }
 
 // Checksums.
+#[tactic(auto, unfolding(crate::specs::Repair::with_sums, region::specs::Ancillary::in_regions))]
 fn mend_sums(plan: Plan, words: &mut [u16])
     ensures { words.new ≡ with_sums plan words.old }
 {
@@ -43,6 +39,7 @@ fn mend_sums(plan: Plan, words: &mut [u16])
 }
 
 // TRS and line numbers.
+#[tactic(auto, unfolding(crate::specs::Repair::with_codes))]
 fn lay_codes(plan: Plan, words: &mut [u16])
     ensures { words.new ≡ with_codes plan words.old }
 {
@@ -55,15 +52,16 @@ fn lay_codes(plan: Plan, words: &mut [u16])
     parts::lay(words, plan.places.sav, &stream::trs(plan.codes.sav));
 }
 
-// CRC, where the register carried is known.
-fn lay_crc(plan: Plan, known: bool, register: u32, words: &mut [u16])
-    ensures { words.new ≡ with_crc plan known register words.old }
+// CRC, where a register was carried.
+#[tactic(auto, unfolding(crate::specs::Repair::with_crc))]
+fn lay_crc(plan: Plan, carried: Option<u32>, words: &mut [u16])
+    ensures { words.new ≡ with_crc plan (is_some carried) (unwrap_or carried 0) words.old }
 {
-    if !known {
+    let Some(register) = carried else {
         return;
-    }
+    };
     let covered = crc::step_words(register, parts::part(words, 0, plan.places.crc));
-    let right = crc::words_of(covered);
+    let right = crc::words_of(covered).unwrap_or_default();
     parts::lay(
         words,
         plan.places.crc,
@@ -72,12 +70,13 @@ fn lay_crc(plan: Plan, known: bool, register: u32, words: &mut [u16])
 }
 
 // Checksums, then TRS and line numbers, then CRC: each may change what the next one covers.
-fn put_right(plan: Plan, known: bool, register: u32, words: &mut [u16])
-    ensures { words.new ≡ put_right plan known register words.old }
+#[tactic(auto, unfolding(crate::specs::Repair::put_right))]
+fn put_right(plan: Plan, carried: Option<u32>, words: &mut [u16])
+    ensures { words.new ≡ put_right plan (is_some carried) (unwrap_or carried 0) words.old }
 {
     mend_sums(plan, words);
     lay_codes(plan, words);
-    lay_crc(plan, known, register, words);
+    lay_crc(plan, carried, words);
 }
 
 // Corrects a row and answers the carry that it then leaves; 4, 5, 2, 3.
@@ -88,36 +87,29 @@ pub fn correct(
     wiping: bool,
     y: &mut [u16],
     c: &mut [u16],
-) -> Corrected
+) -> Result<Carry, Refusal>
     ensures answer { result ≡ corrected raster line carry wiping y.old c.old }
     ensures luma { y.new ≡ unless_refused (check_refusal raster line carry y.old c.old) (corrected_y (plan_of raster line) carry wiping y.old) y.old }
     ensures chroma { c.new ≡ unless_refused (check_refusal raster line carry y.old c.old) (corrected_c (plan_of raster line) carry wiping c.old) c.old }
 {
-    let refusal = row::check_refusal(raster, line, carry, y, c);
-    if refusal != 0 {
-        return Corrected {
-            refusal,
-            carry: Carry::Nothing,
-        };
-    }
-    let plan = plan::plan_of(raster, line);
-    correct_rows(plan, row::carried(carry), wiping, y, c)
+    row::check_refusal(raster, line, carry, y, c)?;
+    let plan = plan::plan_of(raster, line)?;
+    Ok(correct_rows(plan, carry, wiping, y, c))
 }
 
 // Corrects a row under its plan.
-fn correct_rows(plan: Plan, before: Before, wiping: bool, y: &mut [u16], c: &mut [u16]) -> Corrected
-    ensures answer { result ≡ corrected_for 0 (carry_after plan (corrected_stream plan wiping y_blank before.known before.y y.old) (corrected_stream plan wiping c_blank before.known before.c c.old)) }
-    ensures luma { y.new ≡ corrected_stream plan wiping y_blank before.known before.y y.old }
-    ensures chroma { c.new ≡ corrected_stream plan wiping c_blank before.known before.c c.old }
+fn correct_rows(plan: Plan, carry: Carry, wiping: bool, y: &mut [u16], c: &mut [u16]) -> Carry
+    ensures answer { result ≡ carry_after plan (corrected_y plan carry wiping y.old) (corrected_c plan carry wiping c.old) }
+    ensures luma { y.new ≡ corrected_y plan carry wiping y.old }
+    ensures chroma { c.new ≡ corrected_c plan carry wiping c.old }
 {
     wipe(wiping, plan, Y_BLANK, y);
     wipe(wiping, plan, C_BLANK, c);
-    put_right(plan, before.known, before.y, y);
-    put_right(plan, before.known, before.c, c);
-    let after_y = stream::register_after(plan, y);
-    let after_c = stream::register_after(plan, c);
-    Corrected {
-        refusal: 0,
-        carry: Carry::Registers(after_y, after_c),
-    }
+    let before = row::carried(carry);
+    put_right(plan, before.y, y);
+    put_right(plan, before.c, c);
+    Some(Registers {
+        y: stream::register_after(plan, y),
+        c: stream::register_after(plan, c),
+    })
 }

@@ -1,7 +1,9 @@
 -- A row's flags: what is wrong with its two streams, joined.
-use Rattle.std.specs.Prelude.{◌||◌, List, [], ◌∷◌, ℕ, zero, suc}
+use Rattle.std.specs.Prelude.{◌||◌, List, [], ◌∷◌, ℕ, zero, suc, None, Some, Result}
 use Rattle.bits.specs.Choice.{if}
 use Rattle.bits.specs.Bits.{number}
+use Rattle.refusal.specs.declared.Refusal.{Refusal}
+use Rattle.refusal.specs.Refusal.{result_of}
 use Rattle.raster.specs.Lines.{line_refusal}
 use Rattle.plan.specs.declared.Plan.{Plan}
 use Rattle.plan.specs.Plan.{plan_of}
@@ -9,11 +11,8 @@ use Rattle.plan.specs.Refusal.{row_refusal, or_refusal}
 use Rattle.stream.specs.declared.Faults.{Faults}
 use Rattle.stream.specs.Words.{register_after}
 use Rattle.stream.specs.Faults.{faults_of}
-use Rattle.row.specs.declared.Carry.{Carry}
-use Rattle.row.specs.declared.Carry.TheVariants.{Nothing, Registers}
 use Rattle.row.specs.declared.Judged.{Judged}
-use Rattle.row.specs.declared.Checked.{Checked}
-use Rattle.row.specs.Before.{carried, carry_ok}
+use Rattle.row.specs.Before.{Carry, carried, carry_ok}
 
 -- "Flags, by bit: 0 EAV, 1 SAV, 2 line number, 3 Y CRC, 4 C CRC, 5 Y checksum, 6 C checksum, 7 cut packet, 8 reserved code"
 -- "TRS and line number are compared in both channels"
@@ -37,12 +36,12 @@ flags_of p carry y c =
 
 -- "check, correction and building answer the next one"
 abbrev pub carry_after : Plan → List ℕ → List ℕ → Carry
-carry_after p y c = Registers (register_after p y) (register_after p c)
+carry_after p y c = Some (record { y = register_after p y; c = register_after p c })
 
 -- flags and next carry of a row; nothing to judge by where raster or line are not of the table
 abbrev pub judged_by : ℕ → Plan → Carry → List ℕ → List ℕ → Judged
 judged_by zero p carry y c = record { flags = flags_of p carry y c; carry = carry_after p y c }
-judged_by (suc n) p carry y c = record { flags = 0; carry = Nothing }
+judged_by (suc n) p carry y c = record { flags = 0; carry = None }
 
 unfoldable pub judged : ℕ → ℕ → Carry → List ℕ → List ℕ → Judged
 judged code line carry y c = judged_by (line_refusal code line) (plan_of code line) carry y c
@@ -51,9 +50,5 @@ judged code line carry y c = judged_by (line_refusal code line) (plan_of code li
 unfoldable pub check_refusal : ℕ → ℕ → Carry → List ℕ → List ℕ → ℕ
 check_refusal code line carry y c = or_refusal (row_refusal code line y c) (if (carry_ok carry) 0 3)
 
-abbrev pub checked_by : ℕ → Judged → Checked
-checked_by zero j = record { refusal = 0; flags = j.flags; carry = j.carry }
-checked_by (suc n) j = record { refusal = suc n; flags = 0; carry = Nothing }
-
-unfoldable pub checked : ℕ → ℕ → Carry → List ℕ → List ℕ → Checked
-checked code line carry y c = checked_by (check_refusal code line carry y c) (judged code line carry y c)
+unfoldable pub checked : ℕ → ℕ → Carry → List ℕ → List ℕ → Result Judged Refusal
+checked code line carry y c = result_of (check_refusal code line carry y c) (judged code line carry y c)

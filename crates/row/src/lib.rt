@@ -3,52 +3,43 @@
 
 ghost use Rattle.std.specs.Prelude.{◌≡◌, [], ◌∷◌, ◌<◌};
 ghost use Rattle.bits.specs.Bits.{number};
-ghost use Rattle.row.specs.Before.{carried, carry_ok};
+ghost use Rattle.refusal.specs.Refusal.{result_of};
+ghost use Rattle.row.specs.Before.{by_channel, carry_ok};
 ghost use Rattle.row.specs.Row.{carry_after, check_refusal, checked, flags_of, joined, judged};
 
 use crc::REGISTER_TOP;
+pub use folding::Registers;
 use plan::Plan;
+use refusal::Refusal;
 use stream::Faults;
 
-// The CRC registers of Y and C after a row's active words, or nothing where there was no row.
-#[derive(Clone, Copy)]
-pub enum Carry {
-    Nothing,
-    Registers(u32, u32),
-}
+// The CRC registers of both channels after a row's active words, or none where there was no row.
+pub type Carry = Option<Registers>;
 
-// What a carry says.
-#[derive(Clone, Copy)]
-pub struct Before {
-    pub known: bool,
-    pub y: u32,
-    pub c: u32,
-}
-
+// Nine flags, by bit (docs/REFUSALS.md says which), and the next carry.
 #[derive(Clone, Copy)]
 pub struct Judged {
     pub flags: u16,
     pub carry: Carry,
 }
 
+// The register carried to each channel, if one was.
 #[derive(Clone, Copy)]
-pub struct Checked {
-    pub refusal: u8,
-    pub flags: u16,
-    pub carry: Carry,
+pub struct ByChannel {
+    pub y: Option<u32>,
+    pub c: Option<u32>,
 }
 
-// What a carry says; zeros where it is nothing.
-pub fn carried(carry: Carry) -> Before
-    ensures { result ≡ carried carry }
+// A carry by channel.
+pub fn carried(carry: Carry) -> ByChannel
+    ensures { result ≡ by_channel carry }
 {
     match carry {
-        Carry::Nothing => Before {
-            known: false,
-            y: 0,
-            c: 0,
+        None => ByChannel { y: None, c: None },
+        Some(registers) => ByChannel {
+            y: Some(registers.y),
+            c: Some(registers.c),
         },
-        Carry::Registers(y, c) => Before { known: true, y, c },
     }
 }
 
@@ -57,13 +48,8 @@ pub fn carry_ok(carry: Carry) -> bool
     ensures { result ≡ carry_ok carry }
 {
     match carry {
-        Carry::Nothing => true,
-        Carry::Registers(y, c) => {
-            if REGISTER_TOP < y {
-                return false;
-            }
-            c <= REGISTER_TOP
-        }
+        None => true,
+        Some(registers) => registers.y <= REGISTER_TOP && registers.c <= REGISTER_TOP,
     }
 }
 
@@ -89,8 +75,8 @@ fn flags(plan: Plan, carry: Carry, y: &[u16], c: &[u16]) -> u16
     ensures { result ≡ flags_of plan carry y.now c.now }
 {
     let before = carried(carry);
-    let in_y = stream::faults_of(plan, before.known, before.y, y);
-    let in_c = stream::faults_of(plan, before.known, before.c, c);
+    let in_y = stream::faults_of(plan, before.y, y);
+    let in_c = stream::faults_of(plan, before.c, c);
     join(in_y, in_c)
 }
 
@@ -99,11 +85,10 @@ fn carry_after(plan: Plan, y: &[u16], c: &[u16]) -> Carry
     ensures { result ≡ carry_after plan y.now c.now }
 {
     let places = plan.places;
-    let registers = folding::step_channels(
+    Some(folding::step_channels(
         parts::part(y, places.active, places.count),
         parts::part(c, places.active, places.count),
-    );
-    Carry::Registers(registers.y, registers.c)
+    ))
 }
 
 // Flags and next carry of a row's words, whatever they are. It refuses nothing: where raster or line are not of the table there is
@@ -111,50 +96,39 @@ fn carry_after(plan: Plan, y: &[u16], c: &[u16]) -> Carry
 pub fn judge(raster: u32, line: u32, carry: Carry, y: &[u16], c: &[u16]) -> Judged
     ensures { result ≡ judged raster line carry y.now c.now }
 {
-    let plan = plan::plan_of(raster, line);
-    if plan.refusal != 0 {
+    let Ok(plan) = plan::plan_of(raster, line) else {
         return Judged {
             flags: 0,
-            carry: Carry::Nothing,
+            carry: None,
         };
+    };
+    Judged {
+        flags: flags(plan, carry, y, c),
+        carry: carry_after(plan, y, c),
     }
-    let flags = flags(plan, carry, y, c);
-    let carry = carry_after(plan, y, c);
-    Judged { flags, carry }
 }
 
 // The refusal of a row that is checked or corrected; 4, 5, 2, 3.
-pub fn check_refusal(raster: u32, line: u32, carry: Carry, y: &[u16], c: &[u16]) -> u8
-    ensures { result ≡ check_refusal raster line carry y.now c.now }
+pub fn check_refusal(
+    raster: u32,
+    line: u32,
+    carry: Carry,
+    y: &[u16],
+    c: &[u16],
+) -> Result<(), Refusal>
+    ensures { result ≡ result_of (check_refusal raster line carry y.now c.now) tt }
 {
-    let refusal = plan::row_refusal(raster, line, y, c);
-    if refusal != 0 {
-        return refusal;
+    plan::row_refusal(raster, line, y, c)?;
+    if !carry_ok(carry) {
+        return Err(Refusal::TooHigh);
     }
-    if carry_ok(carry) {
-        return 0;
-    }
-    3
+    Ok(())
 }
 
 // Flags and next carry of a row; 4, 5, 2, 3.
-pub fn check(raster: u32, line: u32, carry: Carry, y: &[u16], c: &[u16]) -> Checked
+pub fn check(raster: u32, line: u32, carry: Carry, y: &[u16], c: &[u16]) -> Result<Judged, Refusal>
     ensures { result ≡ checked raster line carry y.now c.now }
 {
-    let refusal = check_refusal(raster, line, carry, y, c);
-    if refusal != 0 {
-        return Checked {
-            refusal,
-            flags: 0,
-            carry: Carry::Nothing,
-        };
-    }
-    let judged = judge(raster, line, carry, y, c);
-    let flags = judged.flags;
-    let carry = judged.carry;
-    Checked {
-        refusal: 0,
-        flags,
-        carry,
-    }
+    check_refusal(raster, line, carry, y, c)?;
+    Ok(judge(raster, line, carry, y, c))
 }

@@ -1,3 +1,4 @@
 pub mod Packets
 pub mod Pieces
 pub mod Remade
+pub mod Walk

@@ -1,12 +1,15 @@
 -- Laws of pieces and of the scan.
 use mathlib.Core.Path.{◌≡◌, refl, sym, ap, subst, ◌∙◌}
-use mathlib.Core.Bool.{Bool, true, false, not, ◌||◌, and-false, or-true, or-false, or_assoc}
+use mathlib.Core.Bool.{Bool, true, false, cond, not, ◌||◌, and-false, or-true, or-false, or_assoc}
 use mathlib.Core.List.{List, [], ◌∷◌, flat_map}
-use Prim.Native.Nat.{ℕ, zero, suc, ◌+◌, ◌-◌, ◌%◌, ◌≤◌, ◌<◌}
+use Prim.Native.Nat.{ℕ, zero, suc, ◌+◌, ◌*◌, ◌-◌, ◌%◌, ◌≤◌, ◌<◌}
 use native.Mathlib.Omega.{arith}
-use native.Mathlib.Nat.{zero-add, add-zero, add_assoc}
+use native.Mathlib.Nat.{zero-add, add-zero, add_assoc, add_comm, mul-zero, mul-suc}
+use native.Mathlib.Numerals.{one-add}
 use lib.ListN.{length, get_or, take, drop, length-append, length-drop, drop_of_length-le}
 use lib.Dec.{eqb}
+use Rattle.std.specs.List.{prefix_len}
+use Rattle.std.specs.Simd.{first_chunks}
 use lib.Seq.{length-take-le, drop-drop, get_or-drop, get_or-take}
 use borrow.Author.Tests.{le-leb, lt-leb}
 use Rattle.bits.specs.Choice.{if}
@@ -16,9 +19,9 @@ use Rattle.parts.proofs.Comparing.{any_cons}
 use Rattle.scan.specs.declared.Here.{Here}
 use Rattle.scan.specs.declared.Here.TheVariants.{Nothing, Cut, Whole}
 use Rattle.scan.specs.declared.Scanned.{Scanned}
-use Rattle.scan.specs.Packet.{marked, size_of, fits, sum_of, checksum_of, right_checksum, checksum_in}
+use Rattle.scan.specs.Packet.{marked, size_of, fits, sum_of, right_checksum, checksum_in}
 use Rattle.scan.specs.Scan.{Piece, Word, Marker, Packet, words_of, piece_at, scan_from, scan, packets_of, scanned, here_of}
-use Rattle.scan.proofs.Packets.{marked_words, marked-room, fits-room, after-marker, summed_at, checksum_in_at}
+use Rattle.scan.proofs.Packets.{marked_words, marked-room, fits-room, checksum_by_sum, after-marker, summed_at, checksum_in_at}
 
 -- ---- piece_at
 
@@ -70,6 +73,8 @@ module _ (r : List ℕ) (i : ℕ) where
       let six : 6 ≤ length r - i = omega arith in
       simp (m, get_or-drop, length-drop, le-leb _ _ six, le-leb _ _ h)
       (ap Whole (length-take-le (get_or r (i + 5) 0 % 256 + 7) (drop i r) (omega (arith, length-drop i r))))
+
+pub ruleset here = (marked-room, here_of-nothing, here_of_cut, here_of_whole)
 
 -- ---- scan: its end and its step
 
@@ -145,7 +150,13 @@ pub scanned-nothing : (r : List ℕ) (i : ℕ) → i < length r → here_of (pie
 unfolding packets_of flat_map any
 scanned-nothing r i h e = rw (scan-turn r i Nothing h e).next
 
-pub scanned-past : (r : List ℕ) (i k : ℕ) → any (λ w. eqb w 0) (take k (drop i r)) ≡ false → scanned (scan (drop i r)) ≡ scanned (scan (drop (i + k) r))
+abbrev has_zero : List ℕ → Bool
+has_zero = any (λ w. eqb w 0)
+
+abbrev pub none_zero : List ℕ → Bool
+none_zero ws = not (has_zero ws)
+
+scanned-past : (r : List ℕ) (i k : ℕ) → any (λ w. eqb w 0) (take k (drop i r)) ≡ false → scanned (scan (drop i r)) ≡ scanned (scan (drop (i + k) r))
 unfolding marked same
 scanned-past r i k e = go k (drop i r) e ∙ rw drop-drop
   where
@@ -155,6 +166,23 @@ scanned-past r i k e = go k (drop i r) e ∙ rw drop-drop
     go (suc k) (w ∷ ws) e =
         let b = any_cons (λ v. eqb v 0) w (take k ws) e in
         scanned-nothing (w ∷ ws) 0 (omega arith) (here_of-nothing (w ∷ ws) 0 (rw b.0)) ∙ go k ws b.1
+
+scanned_past_chunks : (n count : ℕ) (ws : List ℕ) → scanned (scan ws) ≡ scanned (scan (drop (n * prefix_len none_zero (first_chunks n count ws)) ws))
+scanned_past_chunks n zero ws = rw mul-zero
+scanned_past_chunks n (suc count) ws = go (has_zero (take n ws)) refl (scanned_past_chunks n count (drop n ws))
+  where
+    more : ℕ
+    more = prefix_len none_zero (first_chunks n count (drop n ws))
+
+    go : (b : Bool) → has_zero (take n ws) ≡ b → scanned (scan (drop n ws)) ≡ scanned (scan (drop (n * more) (drop n ws)))
+        → scanned (scan ws) ≡ scanned (scan (drop (n * cond (not b) (1 + more) 0) ws))
+    go true e rest = rw mul-zero
+    go false e rest = scanned-past ws 0 n e ∙ rw zero-add (rest ∙ rw (drop-drop, one-add, mul-suc, add_comm n))
+
+-- the chunks of a region from place i on that come before the first with 000
+pub scanned_onward : (n count i passed : ℕ) (r : List ℕ) (chunks : List (List ℕ)) → chunks ≡ first_chunks n count (drop i r) → passed ≡ prefix_len none_zero chunks
+    → scanned (scan (drop i r)) ≡ scanned (scan (drop (i + n * passed) r))
+scanned_onward n count i passed r chunks cut e = scanned_past_chunks n count (drop i r) ∙ rw (drop-drop, e, cut)
 
 -- ---- scanned: what is told of the pieces passed, and of those that are left
 
@@ -175,18 +203,19 @@ module _ (r : List ℕ) (i : ℕ) (h : i < length r) (words : ℕ) (cut wrong : 
   unfolding packets_of flat_map any
   scanned_cut e = rw ((scan-turn r i Cut h e).next, or-true)
 
-  pub scanned_whole : (last sum : ℕ) → here_of (piece_at (drop i r)) ≡ Whole (last + 1) → sum ≡ sum_of (drop 3 (take last (drop i r))) % 512
+  pub scanned_whole : (last sum : ℕ) → here_of (piece_at (drop i r)) ≡ Whole (last + 1) → sum % 512 ≡ sum_of (drop 3 (take last (drop i r))) % 512
       → with_rest words cut wrong (scanned (scan (drop i r)))
       ≡ with_rest (words + (last + 1)) cut (wrong || not (eqb (get_or r (i + last) 0) (nine_of sum)))
       (scanned (scan (drop (i + (last + 1)) r)))
-  unfolding packets_of flat_map any checksum_of
+  unfolding packets_of flat_map any
   scanned_whole last sum e s =
       let n : ℕ = last + 1 in
       let p = take n (drop i r) in
       let t = scan-turn r i (Whole n) h e in
       let a : n - 4 ≡ last - 3 = omega arith in
       let b : n - 1 ≡ last = omega arith in
-      let right : nine_of sum ≡ right_checksum p = rw (s, summed_at r i n t.size, a, after-marker r i last (omega (arith, t.least))) in
+      let right : nine_of sum ≡ right_checksum p =
+      checksum_by_sum sum _ s ∙ rw (summed_at r i n t.size, a, after-marker r i last (omega (arith, t.least))) in
       let has : get_or r (i + last) 0 ≡ checksum_in p = rw (checksum_in_at r i n t.size, b) in
       let long : length p ≡ n = length-take-le n (drop i r) (omega (arith, length-drop i r, t.room)) in
       rw (t.next, right, has, length-append, long) (simp (add_assoc, or_assoc))

@@ -1,5 +1,6 @@
 -- "Each region of each channel is scanned alone, left to right": what stands in a region, piece after piece.
-use Rattle.std.specs.Prelude.{Bool, true, false, not, ℕ, zero, suc, ◌-◌, eqb, length, get_or, take}
+use Rattle.std.specs.Prelude.{Bool, true, false, not, ℕ, zero, suc, ◌+◌, ◌-◌, eqb, length, get_or, take, Option, None, Some}
+use Rattle.std.specs.declared.ops.Range.{Range}
 use mathlib.Core.List.{List, [], ◌∷◌, flat_map}
 use Rattle.bits.specs.Choice.{if}
 use Rattle.parts.specs.Parts.{any}
@@ -70,3 +71,10 @@ abbrev pub here_of : Piece → Here
 here_of (Word w) = Nothing
 here_of Marker = Cut
 here_of (Packet p) = Whole (length p)
+
+-- where the first whole packet stands, of pieces that stand from a place on
+unfoldable pub next_packet : ℕ → List Piece → Option (Range ℕ)
+next_packet at [] = None
+next_packet at (Word w ∷ ps) = next_packet (at + 1) ps
+next_packet at (Marker ∷ ps) = next_packet (at + 3) ps
+next_packet at (Packet p ∷ ps) = Some (record { start = at; end = at + length p })

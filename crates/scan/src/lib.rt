@@ -1,10 +1,12 @@
 // The scan of one region for ancillary packets.
 #![tactic(auto)]
 
-ghost use Rattle.std.specs.Prelude.{◌≡◌, ◌+◌, ◌≤◌, ◌<◌, eqb, length, drop};
+ghost use Rattle.std.specs.Prelude.{◌≡◌, ◌+◌, ◌≤◌, ◌<◌, eqb, length, drop, IfSome};
 ghost use Rattle.parts.specs.Parts.{any};
 ghost use Rattle.scan.specs.Packet.{checksum_of, marked};
-ghost use Rattle.scan.specs.Scan.{piece_at, scan, scanned, here_of};
+ghost use Rattle.scan.specs.Scan.{piece_at, scan, scanned, here_of, next_packet};
+
+use std::ops::Range;
 
 // What stands at a place of a region: no packet starts there, a cut one, or a whole one of so many words.
 #[derive(Clone, Copy)]
@@ -22,27 +24,32 @@ pub struct Scanned {
     pub wrong: bool,
 }
 
+// Whether these words start with a packet's first three.
+#[tactic(auto, using(crate::proofs::Packets::marks))]
+fn marked(words: &[u16]) -> bool
+    ensures { result ≡ marked words.now }
+{
+    matches!(words, [0x000, 0x3ff, 0x3ff, ..])
+}
+
 // Whether a packet's first three words stand at a place.
+#[tactic(auto, unfolding(crate::specs::Packet::marked, parts::specs::Parts::same))]
 fn marked_at(region: &[u16], at: usize) -> bool
     ensures { result ≡ marked (drop at region.now) }
 {
-    parts::same(parts::part(region, at, 3), &[0x000, 0x3ff, 0x3ff])
+    at <= region.len() && marked(&region[at..])
 }
 
-// The checksum of the words from DID to the last user word.
+// The checksum of the words from DID to the last user word. It sees the low nine bits of their sum alone, which a sum that wraps at sixteen bits keeps.
 pub fn checksum(words: &[u16]) -> u16
     ensures { result ≡ checksum_of words.now }
 {
-    let mut sum = 0u16;
-    let mut i = 0;
-    while i < words.len() {
-        sum = (sum + words[i] % 512) % 512;
-        i += 1;
-    }
+    let sum = words.iter().fold(0u16, |sum, word| sum.wrapping_add(*word));
     bits::nine(sum)
 }
 
 // What stands at a place of a region.
+#[tactic(auto, using(crate::proofs::Pieces::here))]
 pub fn here_at(region: &[u16], at: usize) -> Here
     ensures { result ≡ here_of (piece_at (drop at region.now)) }
 {
@@ -60,17 +67,27 @@ pub fn here_at(region: &[u16], at: usize) -> Here
     Here::Whole(size)
 }
 
+// Where the first whole packet stands that the scan finds from a place on.
+pub fn next_packet(region: &[u16], from: usize) -> Option<Range<usize>>
+    ensures found { result ≡ next_packet from (scan (drop from region.now)) }
+    ensures place { IfSome result (λ packet. (from ≤ packet.start) × (packet.start + 7 ≤ packet.end) × (packet.end ≤ length region.now)) }
+{
+    let mut at = from;
+    while at < region.len() {
+        match here_at(region, at) {
+            Here::Nothing => at += 1,
+            Here::Cut => at += 3,
+            Here::Whole(size) => return Some(at..at + size),
+        }
+    }
+    None
+}
+
 // Whether a word is 000. There is no early return, so that many words are compared at once.
 fn any_zero(words: &[u16]) -> bool
     ensures { result ≡ any (λ w. eqb w 0) words.now }
 {
-    let mut found = false;
-    let mut i = 0;
-    while i < words.len() {
-        found = found | (words[i] == 0);
-        i += 1;
-    }
-    found
+    words.iter().fold(false, |found, word| found | (*word == 0))
 }
 
 // Where the scan goes on after a place where no packet starts. A packet starts with 000, so that words without one are passed, sixteen at a time.
@@ -80,21 +97,19 @@ fn onward(region: &[u16], at: usize) -> usize
     ensures place { (at < result) × (result ≤ length region.now) }
     ensures rest { scanned (scan (drop (at + 1) region.now)) ≡ scanned (scan (drop result region.now)) }
 {
-    let n = region.len();
-    let mut i = at + 1;
     if at % 16 != 0 {
-        return i;
+        return at + 1;
     }
-    while 16 <= n - i {
-        if any_zero(&region[i..i + 16]) {
-            return i;
-        }
-        i += 16;
-    }
-    i
+    let (sixteens, _) = region[at + 1..].as_chunks::<16>();
+    let passed = sixteens
+        .iter()
+        .take_while(|words| !any_zero(*words))
+        .count();
+    at + 1 + 16 * passed
 }
 
-// The scan: cut packets are passed by their first three words, whole ones to the word after their checksum.
+// The scan: cut packets are passed by their first three words, whole ones to the word after their checksum. The inner walk sums a packet's words
+// as it passes them, and is left for the scan where the packet is cut.
 pub fn scan(region: &[u16]) -> Scanned
     ensures { result ≡ scanned (scan region.now) }
 {
@@ -115,15 +130,13 @@ pub fn scan(region: &[u16]) -> Scanned
         }
         let last = (region[i + 5] % 256) as usize + 6;
         let mut sum = 0u16;
-        let mut j = 3;
-        while j < last {
+        for j in 3..last {
             if n - i <= j {
                 cut = true;
                 i += 3;
                 continue 'scan;
             }
-            sum = (sum + region[i + j] % 512) % 512;
-            j += 1;
+            sum = sum.wrapping_add(region[i + j]);
         }
         if n - i <= last {
             cut = true;

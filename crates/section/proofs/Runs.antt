@@ -4,14 +4,13 @@ use mathlib.Core.Bool.{Bool, true, false}
 use mathlib.Core.List.{List, ◌∷◌}
 use Prim.Native.Nat.{ℕ, zero, suc, ◌-◌, ◌*◌, ◌≤◌, ◌<◌}
 use native.Mathlib.Omega.{arith}
-use lib.ListN.{get_or}
 use borrow.Author.Tests.{le-leb, le-ltb}
 use Rattle.bits.specs.Choice.{if}
 use Rattle.reader.specs.declared.Stage.{Stage}
 use Rattle.reader.specs.declared.Stage.TheVariants.{TagCount, TagBytes, OptionsCount, RasterByte, WipeByte, WordCount, LowByte, HighByte, Stopped}
-use Rattle.reader.specs.declared.Piece.TheVariants.{Word}
+use Rattle.reader.specs.declared.Piece.TheVariants.{More, Word}
 use Rattle.reader.specs.declared.Reader.{Reader}
-use Rattle.reader.specs.Reader.{reader, count, word_of, brings, of_low_byte, of_high_byte, read_of}
+use Rattle.reader.specs.Reader.{reader, word_of, brings, of_high_byte, read_of}
 use Rattle.section.specs.Section.{starts_no_word, words_ahead, after_words}
 
 -- at most all but the last that are left
@@ -39,22 +38,19 @@ ahead_low r = go r.stage
     go HighByte h = absurd (omega arith)
     go Stopped h = absurd (omega arith)
 
--- after some, as the code has it
-pub after_some : (n : ℕ) (r : Reader) (bs : List ℕ) → (n ≡ 0 → ⊥)
-    → after_words n r bs ≡ reader LowByte (count (r.count.left - n) 0) (get_or bs (2 * n - 2) 0) r.tag r.options
-unfolding after_words
-after_some zero r bs some = absurd (some refl)
-after_some (suc n) r bs some = let last : 2 * suc n - 2 ≡ 2 * n = omega arith in rw last
-
 -- ---- byte by byte
+
+-- the reader after the first byte of a word
+abbrev pub half_read : Reader → ℕ → Reader
+half_read r a = reader HighByte r.count a r.tag r.options
 
 -- the two bytes of a word that may be read so
 module _ (r : Reader) (a : ℕ) (some : 0 < words_ahead r) where
-  pub low_read : read_of r a ≡ of_low_byte r a
+  pub low_read : read_of r a ≡ brings More (half_read r a)
   unfolding read_of
   low_read = rw (ahead_low r some)
 
-  pub high_read : (b : ℕ) (bs : List ℕ) → word_of a b ≤ 0x3ff → read_of (of_low_byte r a).reader b ≡ brings (Word (word_of a b)) (after_words 1 r (a ∷ b ∷ bs))
+  pub high_read : (b : ℕ) (bs : List ℕ) → word_of a b ≤ 0x3ff → read_of (half_read r a) b ≡ brings (Word (word_of a b)) (after_words 1 r (a ∷ b ∷ bs))
   unfolding read_of of_high_byte after_words
   high_read b bs ten = rw (le-leb (word_of a b) 0x3ff ten, le-ltb r.count.left 2 (omega (arith, ahead_within r)))
 

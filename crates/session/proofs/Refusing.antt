@@ -1,35 +1,44 @@
 -- Laws of the refusals: the tests of the code and those of the definitions, and what a feed is that is not refused.
-use mathlib.Core.Path.{◌≡◌, refl, sym, ap, ◌∙◌}
-use mathlib.Core.Bool.{Bool, true, false, not, ◌&&◌, ◌||◌, not-not}
+use mathlib.Core.Path.{◌≡◌, refl}
+use mathlib.Core.Bool.{Bool, true, false, ◌&&◌}
 use mathlib.Core.List.{List}
-use Prim.Native.Nat.{ℕ, zero, suc, ◌≤◌}
+use Prim.Native.Nat.{ℕ, ◌≤◌}
 use lib.Dec.{leb}
 use lib.ListN.{length}
 use borrow.Author.Tests.{leb-true}
 use Rattle.bits.specs.Choice.{if}
 use Rattle.bits.specs.Words.{words10}
 use Rattle.bits.proofs.Choice.{and-true, if_zero}
-use Rattle.raster.specs.Table.{raster_ok, total_of}
+use Rattle.std.specs.Prelude.{Ok, Err}
+use Rattle.refusal.specs.declared.Refusal.{Refusal}
+use Rattle.refusal.specs.declared.Refusal.TheVariants.{OutOfTurn}
+use Rattle.refusal.proofs.Answers.{ok_same, err_same, ok_not_err}
+use Rattle.raster.specs.declared.Raster.{Raster}
+use Rattle.raster.specs.Table.{raster_ok, raster_given, total_of}
 use Rattle.session.specs.declared.Session.{Session}
-use Rattle.stepper.specs.Step.{Run}
-use Rattle.session.specs.Session.{in_range, feed_refusal, fed_by}
+use Rattle.session.specs.Session.{in_range, opened, feed_refusal}
 use Rattle.session.proofs.Ranges.{ranges}
 
--- ---- the code's tests
+-- ---- opened
 
-pub or_not : (a b t : Bool) → (a || not b) ≡ t → (not a && b) ≡ not t
-or_not true b t e = ap not e
-or_not false b t e = sym (not-not b) ∙ ap not e
+module _ (s : Session) where
+  pub opened_ok : {raster : Raster} → opened s ≡ Ok raster → ((s.running && in_range s) ≡ true) × (raster ≡ raster_given s.raster)
+  unfolding opened
+  opened_ok {raster} e = go (s.running && in_range s) refl
+    where
+      go : (b : Bool) → (s.running && in_range s) ≡ b → ((s.running && in_range s) ≡ true) × (raster ≡ raster_given s.raster)
+      go true is_open = (is_open, ok_same e (rw is_open))
+      go false shut = absurd (ok_not_err {e = OutOfTurn} e (rw shut))
 
-pub not_or_not : (a b t : Bool) → (not a || not b) ≡ t → (a && b) ≡ not t
-not_or_not true b t e = or_not false b t e
-not_or_not false b t e = or_not true b t e
+  pub opened_err : {refusal : Refusal} → opened s ≡ Err refusal → ((s.running && in_range s) ≡ false) × (refusal ≡ OutOfTurn)
+  unfolding opened
+  opened_err {refusal} e = go (s.running && in_range s) refl
+    where
+      go : (b : Bool) → (s.running && in_range s) ≡ b → ((s.running && in_range s) ≡ false) × (refusal ≡ OutOfTurn)
+      go true is_open = absurd (ok_not_err {a = raster_given s.raster} (rw is_open) e)
+      go false shut = (shut, err_same e (rw shut))
 
 -- ---- feed
-
-pub fed_by-refused : (n : ℕ) (s : Session) (ws : List ℕ) (x : Run) → (n ≡ 0 → ⊥) → fed_by n s ws x ≡ record { refusal = n; session = s }
-fed_by-refused zero s ws x bad = absurd (bad refl)
-fed_by-refused (suc n) s ws x bad = refl
 
 -- an open session in range, and buffers that a row fits into
 pub record Ready (s : Session) (y c : List ℕ) : Type 0 where

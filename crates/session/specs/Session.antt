@@ -1,9 +1,13 @@
 -- "Begin (raster), feed (words), end (verdict)."
-use Rattle.std.specs.Prelude.{Bool, true, false, not, ◌&&◌, List, [], ℕ, zero, suc, ◌+◌, leb, eqb, length}
+use Rattle.std.specs.Prelude.{Bool, true, false, not, ◌&&◌, List, [], ℕ, ◌+◌, leb, eqb, length, Result, Ok, Err}
+use Rattle.refusal.specs.declared.Refusal.{Refusal}
+use Rattle.refusal.specs.declared.Refusal.TheVariants.{OutOfTurn}
+use Rattle.refusal.specs.Refusal.{result_of}
+use Rattle.raster.specs.declared.Raster.{Raster}
 use Rattle.bits.specs.Choice.{if}
 use Rattle.bits.specs.Bits.{word_bits}
 use Rattle.bits.specs.Words.{words10}
-use Rattle.raster.specs.Table.{meant, raster_ok, total_of, rows_of}
+use Rattle.raster.specs.Table.{meant, raster_ok, raster_given, total_of, rows_of}
 use Rattle.parts.specs.Parts.{unless_refused}
 use Rattle.cable.specs.Words.{start_history, unscramble_next, unscramble_words}
 use Rattle.row.specs.Before.{carried, carry_ok}
@@ -15,11 +19,8 @@ use Rattle.judging.specs.Happening.{no_track}
 use Rattle.laying.specs.Laying.{laid_by}
 use Rattle.stepper.specs.declared.State.{State}
 use Rattle.session.specs.declared.Session.{Session}
-use Rattle.session.specs.declared.Begun.{Begun}
-use Rattle.session.specs.declared.Fed.{Fed}
 use Rattle.session.specs.declared.Ended.{Ended}
-use Rattle.tally.specs.declared.Verdict.TheVariants.{Refused}
-use Rattle.tally.specs.Tally.{no_counts, verdict_of, label_for}
+use Rattle.tally.specs.Tally.{no_counts, verdict_of, label, label_for}
 use Rattle.stepper.specs.Step.{Run, run, steps}
 
 -- "Begin sets history, counts and carry to zero or none.": no bits, no row, no line, no sync either
@@ -74,13 +75,18 @@ in_range s =
 unfoldable pub begin_refusal : Session → ℕ → ℕ
 begin_refusal s code = if (not s.running && in_range s) (if (raster_ok code) 0 4) 7
 
--- what is answered, or "A refusal returns its number .. and changes no buffer and no session."
-abbrev pub begun_by : ℕ → Session → ℕ → Begun
-begun_by zero s code = record { refusal = 0; session = session true (meant code) start_history start_state }
-begun_by (suc n) s code = record { refusal = suc n; session = s }
+-- the session that is answered; "A refusal .. changes .. no session"
+abbrev pub begun_as : ℕ → Session
+begun_as code = session true (meant code) start_history start_state
 
-unfoldable pub begun : Session → ℕ → Begun
-begun s code = begun_by (begin_refusal s code) s code
+unfoldable pub begun : Session → ℕ → Result Session Refusal
+begun s code = result_of (begin_refusal s code) (begun_as code)
+
+-- ---- an open session: "7: .. feed or end when not [open]; a session number outside the range"
+
+-- its raster
+unfoldable pub opened : Session → Result Raster Refusal
+opened s = if (s.running && in_range s) (Ok (raster_given s.raster)) (Err OutOfTurn)
 
 -- ---- feed
 
@@ -98,12 +104,8 @@ fed_run s ws y c = steps laid_by s.raster (total_of s.raster) (word_bits (unscra
 abbrev pub fed_session : Session → List ℕ → Run → Session
 fed_session s ws x = session s.running s.raster (unscramble_next s.history ws) x.state
 
-abbrev pub fed_by : ℕ → Session → List ℕ → Run → Fed
-fed_by zero s ws x = record { refusal = 0; session = fed_session s ws x }
-fed_by (suc n) s ws x = record { refusal = suc n; session = s }
-
-unfoldable pub fed : Session → List ℕ → List ℕ → List ℕ → Fed
-fed s ws y c = fed_by (feed_refusal s ws y c) s ws (fed_run s ws y c)
+unfoldable pub fed : Session → List ℕ → List ℕ → List ℕ → Result Session Refusal
+fed s ws y c = result_of (feed_refusal s ws y c) (fed_session s ws (fed_run s ws y c))
 
 -- a buffer afterwards: "changes no buffer" where it is refused
 unfoldable pub fed_y : Session → List ℕ → List ℕ → List ℕ → List ℕ
@@ -125,17 +127,30 @@ said s =
     (label_for s.state.sight.window.seen (rows_of s.raster) s.state.counts)
     []
 
--- "End answers raster, both counts and verdict, and one closed session"; "A refusal returns its number with zeros .. and changes .. no session."
-abbrev pub ended_by : ℕ → Session → Ended
-ended_by zero s =
+-- "End answers raster, both counts and verdict, and one closed session"
+abbrev pub ended_as : Session → Ended
+ended_as s =
     record {
-      refusal = 0;
       raster = s.raster;
       counts = s.state.counts;
       verdict = verdict_of s.state.sight.window.seen (rows_of s.raster) s.state.counts;
       session = closed;
     }
-ended_by (suc n) s = record { refusal = suc n; raster = 0; counts = no_counts; verdict = Refused; session = s }
 
-unfoldable pub ended : Session → Ended
-ended s = ended_by (end_refusal s) s
+unfoldable pub ended : Session → Result Ended Refusal
+ended s = result_of (end_refusal s) (ended_as s)
+
+-- the label of the answer; none where the call is refused
+abbrev pub end_label : Result Ended Refusal → List ℕ
+end_label (Ok e) = label e.verdict
+end_label (Err refusal) = []
+
+-- ---- what a call leaves: "A refusal .. changes .. no session."
+
+abbrev pub session_or : Session → Result Session Refusal → Session
+session_or s (Ok after) = after
+session_or s (Err refusal) = s
+
+abbrev pub session_left : Session → Result Ended Refusal → Session
+session_left s (Ok e) = e.session
+session_left s (Err refusal) = s

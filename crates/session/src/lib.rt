@@ -1,15 +1,17 @@
 // A module session: begin (raster), feed (words), end (verdict).
 #![tactic(auto)]
 
-ghost use Rattle.std.specs.Prelude.{◌≡◌, true, ◌≤◌};
+ghost use Rattle.std.specs.Prelude.{◌≡◌, ◌&&◌, not, true, ◌≤◌, leb};
 ghost use Rattle.bits.specs.Words.{words10};
+ghost use Rattle.raster.specs.Table.{raster_given};
 ghost use Rattle.cable.specs.Words.{unscramble_next};
-ghost use Rattle.tally.specs.Tally.{label};
-ghost use Rattle.session.specs.Session.{ahead_in, begun, closed, ended, fed, fed_c, feed_refusal, fed_y, in_range, place_in, raster_in, said, sight_in, start_state, track_in};
+ghost use Rattle.refusal.specs.Refusal.{result_of};
+ghost use Rattle.session.specs.Session.{ahead_in, begun, closed, end_label, ended, fed, fed_c, feed_refusal, fed_y, in_range, opened, place_in, raster_in, said, sight_in, start_state, track_in};
 
 use judging::Track;
+use raster::Raster;
 use recogniser::{Place, Sight, Window};
-use row::Carry;
+use refusal::Refusal;
 use stepper::State;
 use tally::{Counts, Verdict};
 
@@ -22,21 +24,9 @@ pub struct Session {
     pub state: State,
 }
 
-#[derive(Clone, Copy)]
-pub struct Begun {
-    pub refusal: u8,
-    pub session: Session,
-}
-
-#[derive(Clone, Copy)]
-pub struct Fed {
-    pub refusal: u8,
-    pub session: Session,
-}
-
+// What is told of a module, and the session in which nothing of it is left.
 #[derive(Clone, Copy)]
 pub struct Ended {
-    pub refusal: u8,
     pub raster: u32,
     pub counts: Counts,
     pub verdict: Verdict,
@@ -52,15 +42,10 @@ fn start() -> State
         ahead: 0,
         seen: false,
     };
-    let place = Place { pairs: 0, bit: 0 };
-    let sight = Sight { window, place };
-    let track = Track {
-        line: 0,
-        carry: Carry::Nothing,
-    };
+    let place = Place::NOWHERE;
     State {
-        sight,
-        track,
+        sight: Sight { window, place },
+        track: Track::NONE,
         counts: Counts::none(),
     }
 }
@@ -69,13 +54,11 @@ fn start() -> State
 fn raster_in(running: bool, raster: u32) -> bool
     ensures { result ≡ raster_in running raster }
 {
-    if !running {
-        return raster == 0;
+    if running {
+        (1..=raster::HIGHEST).contains(&raster)
+    } else {
+        raster == 0
     }
-    if raster < 1 {
-        return false;
-    }
-    raster <= raster::HIGHEST
 }
 
 fn place_in(total: usize, place: Place) -> bool
@@ -84,13 +67,7 @@ fn place_in(total: usize, place: Place) -> bool
     if place.pairs == 0 {
         return place.bit == 0;
     }
-    if place.pairs < 4 {
-        return false;
-    }
-    if total < place.pairs - 3 {
-        return false;
-    }
-    place.bit <= 19
+    4 <= place.pairs && place.pairs - 3 <= total && place.bit <= 19
 }
 
 fn ahead_in(ahead: u8, place: Place) -> bool
@@ -108,26 +85,18 @@ fn ahead_in(ahead: u8, place: Place) -> bool
 fn sight_in(total: usize, sight: Sight) -> bool
     ensures { result ≡ sight_in total sight }
 {
-    if 0xfffffffffffffff < sight.window.last {
-        return false;
-    }
-    if !place_in(total, sight.place) {
-        return false;
-    }
-    ahead_in(sight.window.ahead, sight.place)
+    sight.window.last <= 0xfffffffffffffff
+        && place_in(total, sight.place)
+        && ahead_in(sight.window.ahead, sight.place)
 }
 
 fn track_in(lines: u32, track: Track) -> bool
     ensures { result ≡ track_in lines track }
 {
-    let carry = track.carry;
     if track.line == 0 {
-        return !row::carried(carry).known;
+        return track.carry.is_none();
     }
-    if lines < track.line {
-        return false;
-    }
-    row::carry_ok(carry)
+    track.line <= lines && row::carry_ok(track.carry)
 }
 
 // The history after cable words: the last of them, or, where there are none, the one before.
@@ -135,11 +104,10 @@ fn history_after(history: u16, words: &[u16]) -> u16
     requires { (history ≤ 0x3ff) × (words10 words.now ≡ true) }
     ensures { result ≡ unscramble_next history words.now }
 {
-    let n = words.len();
-    if n == 0 {
-        return history;
+    match words.len() {
+        0 => history,
+        n => words[n - 1],
     }
-    words[n - 1]
 }
 
 impl Session {
@@ -157,125 +125,108 @@ impl Session {
         }
     }
 
-    // Whether every number is in range.
+    // Whether every number is in range under this raster.
+    fn is_in(self, raster: Raster) -> bool
+        ensures { result ≡ raster_in self.running self.raster && (leb self.history 0x3ff && (sight_in raster.layout.total self.state.sight && track_in raster.rows self.state.track)) }
+    {
+        raster_in(self.running, self.raster)
+            && self.history <= 0x3ff
+            && sight_in(raster.layout.total, self.state.sight)
+            && track_in(raster.rows, self.state.track)
+    }
+
+    // Whether every number is in range; the raster of a session that is not open is 0.
     fn is_in_range(self) -> bool
         ensures { result ≡ in_range self }
     {
-        if !raster_in(self.running, self.raster) {
-            return false;
+        match raster::raster_of(self.raster) {
+            Ok(found) => self.is_in(found),
+            Err(_) => false,
         }
-        if 0x3ff < self.history {
-            return false;
-        }
-        let raster = raster::raster_of(self.raster).raster;
-        let state = self.state;
-        if !sight_in(raster.layout.total, state.sight) {
-            return false;
-        }
-        track_in(raster.rows, state.track)
+    }
+
+    fn is_idle(self) -> bool
+        ensures { result ≡ (not self.running && in_range self) }
+    {
+        !self.running && self.is_in_range()
+    }
+
+    fn is_open(self) -> bool
+        ensures { result ≡ (self.running && in_range self) }
+    {
+        self.running && self.is_in_range()
     }
 
     // A module's start under a raster; 7, 4.
-    pub fn begin(self, raster: u32) -> Begun
+    pub fn begin(self, raster: u32) -> Result<Session, Refusal>
         ensures { result ≡ begun self raster }
     {
-        if self.running | !self.is_in_range() {
-            return Begun {
-                refusal: 7,
-                session: self,
-            };
+        if !self.is_idle() {
+            return Err(Refusal::OutOfTurn);
         }
-        let looked = raster::raster_of(raster);
-        if looked.refusal != 0 {
-            return Begun {
-                refusal: 4,
-                session: self,
-            };
-        }
-        let session = Session {
+        let raster = raster::raster_of(raster)?.code;
+        Ok(Session {
             running: true,
-            raster: looked.raster.code,
+            raster,
             history: Session::START,
             state: start(),
-        };
-        Begun {
-            refusal: 0,
-            session,
-        }
+        })
     }
 
-    // The refusal of a feed; 7, 3, 1.
-    fn feed_refusal(self, words: &[u16], y: &[u16], c: &[u16]) -> u8
-        ensures { result ≡ feed_refusal self words.now y.now c.now }
+    // The raster of an open session; 7.
+    fn open(self) -> Result<Raster, Refusal>
+        ensures { result ≡ opened self }
     {
-        if !self.running | !self.is_in_range() {
-            return 7;
+        if !self.is_open() {
+            return Err(Refusal::OutOfTurn);
         }
+        raster::raster_of(self.raster)
+    }
+
+    // The raster under which words are fed; 7, 3, 1.
+    fn ready(self, words: &[u16], y: &[u16], c: &[u16]) -> Result<Raster, Refusal>
+        ensures { result ≡ result_of (feed_refusal self words.now y.now c.now) (raster_given self.raster) }
+    {
+        let raster = self.open()?;
         if !bits::all_words(words) {
-            return 3;
+            return Err(Refusal::TooHigh);
         }
-        let total = raster::raster_of(self.raster).raster.layout.total;
-        if y.len() < total {
-            return 1;
+        let total = raster.layout.total;
+        if y.len() < total || c.len() < total {
+            return Err(Refusal::NoRoom);
         }
-        if c.len() < total {
-            return 1;
-        }
-        0
+        Ok(raster)
     }
 
     // Feeds cable words; the row buffers are lent; 7, 3, 1.
-    pub fn feed(self, words: &[u16], y: &mut [u16], c: &mut [u16]) -> Fed
+    pub fn feed(self, words: &[u16], y: &mut [u16], c: &mut [u16]) -> Result<Session, Refusal>
         ensures answer { result ≡ fed self words.now y.old c.old }
         ensures yrow { y.new ≡ fed_y self words.now y.old c.old }
         ensures crow { c.new ≡ fed_c self words.now y.old c.old }
     {
-        let refusal = self.feed_refusal(words, y, c);
-        if refusal != 0 {
-            return Fed {
-                refusal,
-                session: self,
-            };
-        }
+        let total = self.ready(words, y, c)?.layout.total as u32;
         let raster = self.raster;
-        let total = raster::raster_of(raster).raster.layout.total as u32;
         let state = taking::take_words(self.state, raster, total, self.history, words, y, c);
-        let session = Session {
-            running: true,
-            raster,
+        Ok(Session {
             history: history_after(self.history, words),
             state,
-        };
-        Fed {
-            refusal: 0,
-            session,
-        }
+            ..self
+        })
     }
 
     // The verdict; 7. Nothing of the module is left in the session that is answered.
-    pub fn end(self) -> Ended
+    pub fn end(self) -> Result<Ended, Refusal>
         ensures answer { result ≡ ended self }
-        ensures means { label result.verdict ≡ said self }
+        ensures means { end_label result ≡ said self }
     {
-        if !self.running | !self.is_in_range() {
-            return Ended {
-                refusal: 7,
-                raster: 0,
-                counts: Counts::none(),
-                verdict: Verdict::Refused,
-                session: self,
-            };
-        }
-        let state = self.state;
-        let lines = raster::raster_of(self.raster).raster.rows;
-        let counts = state.counts;
-        let verdict = tally::verdict_of(state.sight.window.seen, lines, counts);
-        Ended {
-            refusal: 0,
+        let rows = self.open()?.rows;
+        let counts = self.state.counts;
+        let seen = self.state.sight.window.seen;
+        Ok(Ended {
             raster: self.raster,
             counts,
-            verdict,
+            verdict: tally::verdict_of(seen, rows, counts),
             session: Session::fresh(),
-        }
+        })
     }
 }

@@ -43,6 +43,11 @@ rows_after lay total l s x =
     run s (lay l.event total x.state.sight.place.pairs (y_word l.sight.window.last) x.y)
     (lay l.event total x.state.sight.place.pairs (c_word l.sight.window.last) x.c)
 
+-- what is recognised has arrived: judged, tallied, laid
+abbrev pub arrived : Laying → ℕ → ℕ → Looked → Run → Run
+arrived lay code total l x =
+    rows_after lay total l (state_after l (happened l.event code x.state.track (part 0 total x.y) (part 0 total x.c)) x.state) x
+
 unfoldable pub stepped : Laying → ℕ → ℕ → Bool → Run → Run
 stepped lay code total b x =
     rows_after lay total (recognised total b x) (state_after (recognised total b x) (brought code total b x) x.state) x

@@ -3,10 +3,8 @@
 
 ghost use Rattle.std.specs.Prelude.{◌≡◌};
 ghost use Rattle.bits.specs.Bits.{bits};
-ghost use Rattle.parts.specs.Parts.{part};
-ghost use Rattle.judging.specs.Happening.{happened};
 ghost use Rattle.laying.specs.Laying.{laid_by};
-ghost use Rattle.stepper.specs.Step.{is_quiet, rows_after, run, state_after, steps};
+ghost use Rattle.stepper.specs.Step.{arrived, is_quiet, run, stepped, steps};
 
 use judging::Track;
 use recogniser::{Event, Looked, Sight};
@@ -24,25 +22,15 @@ pub struct State {
 fn is_quiet(event: Event) -> bool
     ensures { result ≡ is_quiet event }
 {
-    match event {
-        Event::Outside => true,
-        Event::Within => true,
-        Event::Pair => false,
-        Event::Opens => false,
-        Event::Whole => false,
-        Event::Early => false,
-        Event::Late => false,
-        Event::Astray => false,
-    }
+    matches!(event, Event::Outside | Event::Within)
 }
 
 impl State {
     // What is recognised with a bit is judged, tallied, laid. The row is judged before anything is laid.
-    fn arrive(self, raster: u32, total: u32, looked: Looked, y: &mut [u16], c: &mut [u16]) -> State
-        ensures { run result y.new c.new ≡ rows_after laid_by total looked (state_after looked (happened looked.event raster self.track (part 0 total y.old) (part 0 total c.old)) self) (run self y.old c.old) }
+    fn arrive(&mut self, raster: u32, total: u32, looked: Looked, y: &mut [u16], c: &mut [u16])
+        ensures { run self.new y.new c.new ≡ arrived laid_by raster total looked (run self.old y.old c.old) }
     {
-        let at = self.sight.place.pairs;
-        let event = looked.event;
+        let Looked { event, sight } = looked;
         let n = total as usize;
         let happened = judging::happen(
             event,
@@ -51,21 +39,31 @@ impl State {
             parts::part(y, 0, n),
             parts::part(c, 0, n),
         );
-        let pair = recogniser::last_pair(looked.sight.window.last);
+        let at = self.sight.place.pairs;
+        let pair = recogniser::last_pair(sight.window.last);
         laying::lay_event(event, total, at, pair.y, y);
         laying::lay_event(event, total, at, pair.c, c);
-        let happening = happened.happening;
-        let sight = looked.sight;
-        let track = happened.track;
-        let counts = tally::tally(happening, self.counts);
-        State {
-            sight,
-            track,
-            counts,
+        self.sight = sight;
+        self.track = happened.track;
+        self.counts = tally::tally(happened.happening, self.counts);
+    }
+
+    // One unscrambled bit. Most of them change only what is seen.
+    #[tactic(auto, unfolding(crate::specs::Step::stepped, judging::specs::Happening::happened, laying::specs::Laying::laid_by, tally::specs::Tally::tallied))]
+    fn step(&mut self, raster: u32, total: u32, bit: bool, y: &mut [u16], c: &mut [u16])
+        ensures { run self.new y.new c.new ≡ stepped laid_by raster total bit (run self.old y.old c.old) }
+    {
+        let looked = recogniser::look(self.sight, bit, total);
+        if is_quiet(looked.event) {
+            let sight = looked.sight;
+            self.sight = sight;
+        } else {
+            self.arrive(raster, total, looked, y, c);
         }
     }
 
-    // Ten unscrambled bits, lowest first. Most of them change only what is seen.
+    // Ten unscrambled bits, lowest first.
+    #[tactic(auto, using(crate::proofs::Stepping::steps_none, crate::proofs::Stepping::steps_bit), unfolding(bits::specs::Bits::odd))]
     pub fn take_word(
         self,
         raster: u32,
@@ -76,21 +74,10 @@ impl State {
     ) -> State
         ensures { run result y.new c.new ≡ steps laid_by raster total (bits 10 word) (run self y.old c.old) }
     {
-        let mut s = self;
-        let mut w = word;
-        let mut k = 0usize;
-        while k < 10 {
-            let looked = recogniser::look(s.sight, w % 2 == 1, total);
-            w = w / 2;
-            k += 1;
-            let event = looked.event;
-            if is_quiet(event) {
-                let sight = looked.sight;
-                s.sight = sight;
-                continue;
-            }
-            s = s.arrive(raster, total, looked, y, c);
+        let mut state = self;
+        for bit in 0..10u32 {
+            state.step(raster, total, (word >> bit) % 2 == 1, y, c);
         }
-        s
+        state
     }
 }

@@ -1,6 +1,6 @@
 -- The words of one stream of a row (a channel) outside its regions: timing codes, line number, CRC; as they should be and as they stand.
 use Rattle.std.specs.Prelude.{List, [], ◌∷◌, ◌++◌, ℕ, take}
-use Rattle.crc.specs.Crc.{crc_start, crc_words, cr_words}
+use Rattle.crc.specs.Crc.{crc_start, crc_words, words_given}
 use Rattle.parts.specs.Parts.{part}
 use Rattle.plan.specs.declared.Plan.{Plan}
 use Rattle.region.specs.Ancillary.{active_of}
@@ -25,7 +25,7 @@ head_words p = trs p.codes.eav ++ line_words_of p
 
 -- the CRC words of a register (zeros for one above 3FFFF, which no carry in range leads to)
 abbrev pub check_words : Plan → ℕ → List ℕ
-check_words p r = take p.places.checks ((cr_words r).cr0 ∷ (cr_words r).cr1 ∷ [])
+check_words p r = take p.places.checks ((words_given r).cr0 ∷ (words_given r).cr1 ∷ [])
 
 -- as they stand, "at their fixed places"
 abbrev pub eav_of : Plan → List ℕ → List ℕ

@@ -1,7 +1,7 @@
 // One stream of a row: what is wrong with it, and the register that it leaves.
 #![tactic(auto)]
 
-ghost use Rattle.std.specs.Prelude.{◌≡◌, ◌&&◌, [], ◌∷◌, take};
+ghost use Rattle.std.specs.Prelude.{◌≡◌, ◌&&◌, [], ◌∷◌, take, is_some, unwrap_or};
 ghost use Rattle.bits.specs.Words.{reserved_code};
 ghost use Rattle.crc.specs.Crc.{crc_words};
 ghost use Rattle.parts.specs.Parts.{any, part};
@@ -50,15 +50,15 @@ fn pair_differs(words: &[u16], at: usize, count: usize, first: u16, second: u16)
     )
 }
 
-// Whether the CRC words are others than those of the register carried and the words that head the row.
-fn crc_differs(plan: Plan, known: bool, register: u32, words: &[u16]) -> bool
-    ensures { result ≡ known && differ (checks_of plan words.now) (check_words plan (covered_by plan register words.now)) }
+// Whether the CRC words are others than those of the register carried and the words that head the row; with none carried they are not judged.
+fn crc_differs(plan: Plan, carried: Option<u32>, words: &[u16]) -> bool
+    ensures { result ≡ is_some carried && differ (checks_of plan words.now) (check_words plan (covered_by plan (unwrap_or carried 0) words.now)) }
 {
-    if !known {
+    let Some(register) = carried else {
         return false;
-    }
+    };
     let covered = crc::step_words(register, parts::part(words, 0, plan.places.crc));
-    let right = crc::words_of(covered);
+    let right = crc::words_of(covered).unwrap_or_default();
     pair_differs(
         words,
         plan.places.crc,
@@ -69,25 +69,24 @@ fn crc_differs(plan: Plan, known: bool, register: u32, words: &[u16]) -> bool
 }
 
 // Whether a reserved code stands in the picture.
+#[tactic(auto, unfolding(parts::specs::Parts::any))]
 fn picture_reserved(plan: Plan, words: &[u16]) -> bool
     ensures { result ≡ any reserved_code (picture_of plan words.now) }
 {
-    if plan.v {
-        return false;
-    }
-    parts::any_reserved(parts::part(words, plan.places.active, plan.places.count))
+    !plan.v && parts::any_reserved(parts::part(words, plan.places.active, plan.places.count))
 }
 
-// What is wrong with a stream; CRC is judged where the register carried is known.
-pub fn faults_of(plan: Plan, known: bool, register: u32, words: &[u16]) -> Faults
-    ensures { result ≡ faults_of plan known register words.now }
+// What is wrong with a stream, under the register carried to it.
+#[tactic(auto, unfolding(crate::specs::Faults::faults_of))]
+pub fn faults_of(plan: Plan, carried: Option<u32>, words: &[u16]) -> Faults
+    ensures { result ≡ faults_of plan (is_some carried) (unwrap_or carried 0) words.now }
 {
     let packets = region::scan_packets(plan, words);
     Faults {
         eav: trs_differs(words, 0, plan.codes.eav),
         sav: trs_differs(words, plan.places.sav, plan.codes.sav),
         line: pair_differs(words, 4, plan.places.lines, plan.codes.ln0, plan.codes.ln1),
-        crc: crc_differs(plan, known, register, words),
+        crc: crc_differs(plan, carried, words),
         sum: packets.wrong,
         cut: packets.cut,
         reserved: picture_reserved(plan, words),

@@ -1,8 +1,8 @@
 -- Laws of the last sixty bits as a number: bits that enter, and bits in which no sync ends.
-use mathlib.Core.Path.{◌≡◌, refl, sym, ap, subst, ◌∙◌}
+use mathlib.Core.Path.{◌≡◌, refl, sym, ap, ◌∙◌}
 use mathlib.Core.Bool.{Bool, true, false}
 use mathlib.Core.List.{List, [], ◌∷◌, ◌++◌}
-use Prim.Native.Nat.{ℕ, zero, suc, ◌+◌, ◌-◌, ◌*◌, ◌/◌, ◌^◌, ◌≤◌, ◌<◌}
+use Prim.Native.Nat.{ℕ, zero, suc, ◌+◌, ◌*◌, ◌/◌, ◌^◌, ◌≤◌, ◌<◌}
 use native.Mathlib.Omega.{arith}
 use native.Mathlib.Nat.{pow-suc, pow-succ', div-div-eq-div-mul, add-mul-div_left}
 use lib.ListN.{length, replicate}
@@ -52,18 +52,15 @@ calm_high l h bs long = high_no_sync l bs (rw long h)
 pub calm_low : (l : ℕ) → l < 0x1ffffe → Calm l
 calm_low l h bs long = zeros_no_sync l bs (omega arith) (low_no_sync (length bs) l h)
 
-pub calm_zeros : (l : ℕ) → NoSync l (zeros 20) → Calm l
-calm_zeros l h bs long = zeros_no_sync l bs (omega arith) (rw long h)
+zeros_each : (n l : ℕ) → ((k : ℕ) → 1 ≤ k → k ≤ n → l / 2 ^ k ≡ 0xfffff → ⊥) → NoSync l (zeros n)
+zeros_each zero l each = tt
+zeros_each (suc n) l each =
+    let half : l / 2 ≡ slid l false = omega arith in
+    let deep = λ (k : ℕ). ap (λ (m : ℕ). m / 2 ^ k) (sym half) ∙ div-div-eq-div-mul l 2 (2 ^ k) ∙ ap (λ (m : ℕ). l / m) (sym (pow-succ' 2 k)) in
+    (is_sync_other (slid l false) (λ e. each 1 (omega arith) (omega arith) (half ∙ e)), zeros_each n (slid l false) (λ k some few e. each (suc k) (omega arith) (omega arith) (sym (deep k) ∙ e)))
 
--- a turn of the loop over the twenty zeros, and its end
-pub zeros_turn : (l k : ℕ) → k < 20 → (l / 2 ≡ 0xfffff → ⊥) → NoSync (l / 2) (zeros (20 - (k + 1))) → NoSync l (zeros (20 - k))
-zeros_turn l k few other h =
-    let left : 20 - k ≡ suc (20 - (k + 1)) = omega arith in
-    let e : l / 2 ≡ slid l false = omega arith in
-    rw left (is_sync_other (slid l false) (λ f. other (e ∙ f)), subst (λ (m : ℕ). NoSync m (zeros (20 - (k + 1)))) e h)
-
-pub zeros_end : (l k : ℕ) → 20 ≤ k → NoSync l (zeros (20 - k))
-zeros_end l k h = let none : 20 - k ≡ 0 = omega arith in rw none tt
+pub calm_zeros : (l : ℕ) → ((k : ℕ) → 1 ≤ k → k ≤ 20 → l / 2 ^ k ≡ 0xfffff → ⊥) → Calm l
+calm_zeros l each bs long = zeros_no_sync l bs (omega arith) (rw long (zeros_each 20 l each))
 
 -- .. in the first of some bits, and in the rest
 pub no_sync_split : (l : ℕ) (xs bs : List Bool) → NoSync l (xs ++ bs) → NoSync l xs × NoSync (slides l xs) bs

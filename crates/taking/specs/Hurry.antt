@@ -1,5 +1,5 @@
 -- Unscrambled words taken two by two: what is left to do is the same, from there on, as from the start.
-use Rattle.std.specs.Prelude.{◌≡◌, Bool, false, List, [], ◌∷◌, ℕ, ◌+◌, ◌*◌, ◌≤◌, ◌<◌, length, get_or, take, drop}
+use Rattle.std.specs.Prelude.{◌≡◌, Bool, false, List, [], ◌∷◌, ℕ, ◌+◌, ◌*◌, ◌<◌, length, get_or, take}
 use Rattle.bits.specs.Bits.{word_bits}
 use Rattle.align.specs.Search.{slid}
 use Rattle.recogniser.specs.declared.Place.{Place}
@@ -9,9 +9,9 @@ use Rattle.laying.specs.Laying.{laid_by}
 use Rattle.stepper.specs.declared.State.{State}
 use Rattle.stepper.specs.Step.{Run, seeing, steps}
 
--- words from a place on, bit by bit
-abbrev pub gone_on : ℕ → ℕ → List ℕ → ℕ → Run → Run
-gone_on code total words at = steps laid_by code total (word_bits (drop at words))
+-- words, bit by bit
+abbrev pub gone_on : ℕ → ℕ → List ℕ → Run → Run
+gone_on code total words = steps laid_by code total (word_bits words)
 
 -- these last bits and this place in sight, no XYZ pair being awaited; and a state that sees them
 abbrev pub stands : Sight → ℕ → Place → Sight
@@ -20,13 +20,13 @@ stands sight last place = record { window = record { last = last; ahead = 0; see
 abbrev pub standing : State → ℕ → Place → State
 standing s last place = seeing s (stands s.sight last place)
 
--- the last sixty bits after more bits, and after the pairs of words from a place on
+-- the last sixty bits after more bits, and after so many pairs of words
 abbrev pub slides : ℕ → List Bool → ℕ
 slides last [] = last
 slides last (b ∷ bs) = slides (slid last b) bs
 
-abbrev pub last_after : ℕ → List ℕ → ℕ → ℕ → ℕ
-last_after last words at pairs = slides last (word_bits (take (2 * pairs) (drop at words)))
+abbrev pub last_after : ℕ → List ℕ → ℕ → ℕ
+last_after last words pairs = slides last (word_bits (take (2 * pairs) words))
 
 -- no sync ends with any of these bits
 abbrev pub NoSync : ℕ → List Bool → Type 0
@@ -38,9 +38,9 @@ abbrev pub Calm : ℕ → Type 0
 Calm last = (bs : List Bool) → length bs ≡ 20 → NoSync last bs
 
 -- .. nor while so many pairs of words are taken
-abbrev pub CalmFor : ℕ → List ℕ → ℕ → ℕ → Type 0
-CalmFor last words at pairs = (k : ℕ) → k < pairs → Calm (last_after last words at k)
+abbrev pub CalmFor : ℕ → List ℕ → ℕ → Type 0
+CalmFor last words pairs = (k : ℕ) → k < pairs → Calm (last_after last words k)
 
--- of no two neighbours, from a place on and before an end, both are zeros
-abbrev pub NoGap : List ℕ → ℕ → ℕ → Type 0
-NoGap words at end = (i : ℕ) → at ≤ i → i + 1 < end → get_or words i 0 ≡ 0 → get_or words (i + 1) 0 ≡ 0 → ⊥
+-- of no two neighbours both are zeros
+abbrev pub NoGap : List ℕ → Type 0
+NoGap words = (i : ℕ) → i + 1 < length words → get_or words i 0 ≡ 0 → get_or words (i + 1) 0 ≡ 0 → ⊥

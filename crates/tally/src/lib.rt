@@ -25,7 +25,8 @@ pub enum Verdict {
 }
 
 impl Counts {
-    pub const CEILING: u32 = 4294967295;
+    // Both counts stay here once there.
+    pub const CEILING: u32 = u32::MAX;
 
     // Where every module starts; what a refused call answers.
     pub fn none() -> Counts
@@ -39,44 +40,25 @@ impl Counts {
 fn raise(one: bool, n: u32) -> u32
     ensures { result ≡ raised one n }
 {
-    if !one {
-        return n;
-    }
-    if n < Counts::CEILING {
-        return n + 1;
-    }
-    n
+    n.saturating_add(u32::from(one))
 }
 
 // Whether a happening is a row that counts.
 fn is_row(happening: Happening) -> bool
     ensures { result ≡ is_row happening }
 {
-    match happening {
-        Happening::Quiet => false,
-        Happening::RowJudged(_line, _flags, known) => known,
-        Happening::Unnumbered => false,
-        Happening::DroppedEarly => false,
-        Happening::DroppedLate => false,
-        Happening::DroppedAstray => false,
-    }
+    matches!(happening, Happening::RowJudged(_, _, true))
 }
 
 // Whether a happening is a fault.
 fn is_fault(happening: Happening) -> bool
     ensures { result ≡ is_fault happening }
 {
-    match happening {
-        Happening::Quiet => false,
-        Happening::RowJudged(_line, flags, _known) => flags != 0,
-        Happening::Unnumbered => true,
-        Happening::DroppedEarly => true,
-        Happening::DroppedLate => true,
-        Happening::DroppedAstray => true,
-    }
+    !matches!(happening, Happening::Quiet | Happening::RowJudged(_, 0, _))
 }
 
 // The counts after a happening.
+#[tactic(auto, unfolding(crate::specs::Tally::tallied))]
 pub fn tally(happening: Happening, counts: Counts) -> Counts
     ensures { result ≡ tallied (happenings happening) counts }
 {
@@ -92,13 +74,12 @@ pub fn verdict_of(seen: bool, lines: u32, counts: Counts) -> Verdict
     ensures means { label result ≡ label_for seen lines counts }
 {
     if !seen {
-        return Verdict::NoSignal;
+        Verdict::NoSignal
+    } else if counts.faults != 0 {
+        Verdict::Fail
+    } else if counts.rows < lines {
+        Verdict::Short
+    } else {
+        Verdict::Pass
     }
-    if counts.faults != 0 {
-        return Verdict::Fail;
-    }
-    if counts.rows < lines {
-        return Verdict::Short;
-    }
-    Verdict::Pass
 }

@@ -13,9 +13,11 @@ use Rattle.bits.specs.Choice.{if}
 use Rattle.bits.specs.Bits.{◌⊕◌, odd, bits, number, xors, count, parity}
 use Rattle.bits.specs.Words.{reserved_code}
 use Rattle.bits.proofs.Bits.{⊕-same, number_lt}
-use Rattle.timing.specs.declared.Timing.{Timing}
-use Rattle.timing.specs.declared.Timing.TheVariants.{Refused, Inexact, Exact}
-use Rattle.timing.specs.Xyz.{xyz_of, f_bit, v_bit, h_bit, exact_xyz, read_xyz, reading, told, reading_of}
+use Rattle.std.specs.Prelude.{Option, None, Some, Result, Ok, Err}
+use Rattle.refusal.specs.declared.Refusal.{Refusal}
+use Rattle.refusal.specs.declared.Refusal.TheVariants.{TooHigh}
+use Rattle.timing.specs.declared.Fvh.{Fvh}
+use Rattle.timing.specs.Xyz.{xyz_of, fvh, f_bit, v_bit, h_bit, exact_xyz, read_xyz, reading, told, reading_of}
 use Rattle.bits.proofs.Choice.{by_three}
 use Rattle.bits.proofs.Below.{every, every_at}
 
@@ -44,17 +46,27 @@ xyz_not_reserved = by_three (λ (f v h : Bool). reserved_code (xyz_of f v h) ≡
 
 -- ---- read_xyz
 
-pub xyz_read_of_build : (f v h : Bool) → read_xyz (xyz_of f v h) ≡ Exact f v h
+pub xyz_read_of_build : (f v h : Bool) → read_xyz (xyz_of f v h) ≡ Ok (Some (fvh f v h))
 unfolding read_xyz xyz_of number odd
-xyz_read_of_build = by_three (λ (f v h : Bool). read_xyz (xyz_of f v h) ≡ Exact f v h) refl refl refl refl refl refl refl refl
+xyz_read_of_build = by_three (λ (f v h : Bool). read_xyz (xyz_of f v h) ≡ Ok (Some (fvh f v h))) refl refl refl refl refl refl refl refl
 
-pub xyz_build_of_read : (w : ℕ) (f v h : Bool) → read_xyz w ≡ Exact f v h → w ≡ xyz_of f v h
+-- the word of what was read
+abbrev word_of : Result (Option Fvh) Refusal → ℕ
+word_of (Err refusal) = 0
+word_of (Ok None) = 0
+word_of (Ok (Some x)) = xyz_of x.f x.v x.h
+
+-- the reading of a word, by its tests
+abbrev read_as : Bool → Bool → ℕ → Result (Option Fvh) Refusal
+read_as low exact w = if low (Ok (if exact (Some (fvh (f_bit w) (v_bit w) (h_bit w))) None)) (Err TooHigh)
+
+pub xyz_build_of_read : (w : ℕ) (f v h : Bool) → read_xyz w ≡ Ok (Some (fvh f v h)) → w ≡ xyz_of f v h
 unfolding read_xyz
 xyz_build_of_read w f v h e = go (leb w 0x3ff) (exact_xyz w) (eqb-true w (xyz_of (f_bit w) (v_bit w) (h_bit w))) e
   where
     go : (a b : Bool) → (b ≡ true → w ≡ xyz_of (f_bit w) (v_bit w) (h_bit w))
-        → if a (if b (Exact (f_bit w) (v_bit w) (h_bit w)) Inexact) Refused ≡ Exact f v h → w ≡ xyz_of f v h
-    go true true k q = let r : w ≡ xyz_of (f_bit w) (v_bit w) (h_bit w) = k refl in cc
+        → read_as a b w ≡ Ok (Some (fvh f v h)) → w ≡ xyz_of f v h
+    go true true k q = k refl ∙ ap word_of q
     go true false k q = cc
     go false b k q = cc
 
@@ -63,13 +75,13 @@ xyz_told : (w : ℕ) → told (read_xyz w) ≡ reading_of w
 unfolding read_xyz
 xyz_told w = go (leb w 0x3ff) (exact_xyz w)
   where
-    go : (a b : Bool) → told (if a (if b (Exact (f_bit w) (v_bit w) (h_bit w)) Inexact) Refused)
+    go : (a b : Bool) → told (read_as a b w)
         ≡ if a (if b (reading 0 true (f_bit w) (v_bit w) (h_bit w)) (reading 0 false false false false)) (reading 3 false false false false)
     go true true = refl
     go true false = refl
     go false b = refl
 
-pub xyz_answered : (w : ℕ) (r : Timing) → r ≡ read_xyz w → (r ≡ read_xyz w) × (told r ≡ reading_of w)
+pub xyz_answered : (w : ℕ) (r : Result (Option Fvh) Refusal) → r ≡ read_xyz w → (r ≡ read_xyz w) × (told r ≡ reading_of w)
 xyz_answered w r e = (e, ap told e ∙ xyz_told w)
 
 -- ---- the eight codes

@@ -1,20 +1,23 @@
 -- Laws of the line number words: range, reading of built words, building of read ones.
-use mathlib.Core.Path.{◌≡◌, refl, sym, ap, ap₂, ◌∙◌}
-use mathlib.Core.Logic.{◌⊎◌, inl, inr, ⊎_elim}
+use mathlib.Core.Path.{◌≡◌, refl, sym, ap₂, ◌∙◌}
 use mathlib.Core.Bool.{Bool, true, false, ◌&&◌}
-use Prim.Native.Nat.{ℕ, zero, suc, ◌+◌, ◌*◌, ◌/◌, ◌%◌, ◌≤◌, ◌<◌}
+use Prim.Native.Nat.{ℕ, zero, suc, ◌+◌, ◌*◌, ◌/◌, ◌%◌, ◌<◌}
 use native.Mathlib.Omega.{arith}
-use lib.Dec.{leb, eqb}
+use lib.Dec.{eqb}
 use borrow.Author.Tests.{le-leb, eq-eqb, eqb-true}
-use Rattle.bits.specs.Choice.{if}
+use Rattle.std.specs.Prelude.{Some, Ok, Err}
+use Rattle.bits.specs.Choice.{if, unless_zero}
+use Rattle.bits.proofs.Choice.{some_unless_zero}
+use Rattle.refusal.specs.declared.Refusal.{Refusal}
+use Rattle.refusal.specs.Refusal.{refusal_numbered, refusal_of}
+use Rattle.refusal.proofs.Answers.{result_of_ok, result_of_bad, result_of_err, refusal_of_result}
 use Rattle.bits.specs.Words.{reserved_code}
 use Rattle.bits.proofs.Words.{nine_range, nine_low, nine_not_reserved}
 use Rattle.raster.specs.Table.{raster_ok}
 use Rattle.raster.specs.Lines.{line_ok, line_refusal}
-use Rattle.raster.proofs.Lines.{line_ok_range, line_refusal_ok}
+use Rattle.raster.proofs.Lines.{line_ok_range, line_refusal_below}
 use Rattle.timing.specs.declared.LineWords.{LineWords}
-use Rattle.timing.specs.declared.LineRead.{LineRead}
-use Rattle.timing.specs.Line.{ln0_of, ln1_of, words_for, line_words, line_in, line_from, line_read}
+use Rattle.timing.specs.Line.{ln0_of, ln1_of, words_of, line_words, line_in, line_from, read_refusal, line_read}
 
 -- ---- ln0_of and ln1_of, for every number
 
@@ -29,36 +32,27 @@ line_not_reserved line = (nine_not_reserved (line % 128 * 4), nine_not_reserved 
 
 -- ---- line_words
 
-pub line_words_made : (code line : ℕ) → line_refusal code line ≡ 0 → line_words code line ≡ record { refusal = 0; ln0 = ln0_of line; ln1 = ln1_of line }
-unfolding line_words
-line_words_made code line e = rw e
+module _ (code line : ℕ) where
+  pub line_words_made : line_refusal code line ≡ 0 → line_words code line ≡ Ok (words_of line)
+  unfolding line_words
+  line_words_made ok = rw ok
 
-pub line_words_refused : (code line : ℕ) → (line_refusal code line ≡ 0 → ⊥)
-    → line_words code line ≡ record { refusal = line_refusal code line; ln0 = 0; ln1 = 0 }
-unfolding line_words
-line_words_refused code line = go (line_refusal code line)
-  where
-    go : (n : ℕ) → (n ≡ 0 → ⊥) → words_for n line ≡ record { refusal = n; ln0 = 0; ln1 = 0 }
-    go zero bad = absurd (bad refl)
-    go (suc n) bad = refl
+  pub line_words_refused : (line_refusal code line ≡ 0 → ⊥) → line_words code line ≡ Err (refusal_numbered (line_refusal code line))
+  unfolding line_words
+  line_words_refused bad = result_of_bad (words_of line) (line_refusal code line) bad
 
-pub line_words_refusal : (code line : ℕ) → (line_words code line).refusal ≡ line_refusal code line
-unfolding line_words
-line_words_refusal code line = go (line_refusal code line)
-  where
-    go : (n : ℕ) → (words_for n line).refusal ≡ n
-    go zero = refl
-    go (suc n) = refl
+  pub line_words_refusal : refusal_of (line_words code line) ≡ line_refusal code line
+  unfolding line_words
+  line_words_refusal = refusal_of_result (words_of line) (line_refusal code line) (line_refusal_below code line)
 
--- words that are not refused are those of a line in range
-abbrev pub Built : ℕ → ℕ → LineWords → Type 0
-Built code line r = (line_ok code line ≡ true) × (r.ln0 ≡ ln0_of line) × (r.ln1 ≡ ln1_of line)
+  -- words are answered only for a line in range, and are its own
+  pub line_words_ok : {words : LineWords} → line_words code line ≡ Ok words → (line_refusal code line ≡ 0) × (words ≡ words_of line)
+  unfolding line_words
+  line_words_ok e = result_of_ok (words_of line) (line_refusal code line) e
 
-pub line_words_built : (code line : ℕ) (r : LineWords) → r ≡ line_words code line → r.refusal ≡ 0 → Built code line r
-line_words_built code line r e z =
-    let q : line_refusal code line ≡ 0 = sym (line_words_refusal code line) ∙ sym (ap (λ (w : LineWords). w.refusal) e) ∙ z in
-    let m = e ∙ line_words_made code line q in
-    ((line_refusal_ok code line q).1, ap (λ (w : LineWords). w.ln0) m, ap (λ (w : LineWords). w.ln1) m)
+  pub line_words_err : {refusal : Refusal} → line_words code line ≡ Err refusal → line_refusal code line ≡ 0 → ⊥
+  unfolding line_words
+  line_words_err e = (result_of_err (words_of line) (line_refusal code line) e).0
 
 -- ---- line_in
 
@@ -102,49 +96,42 @@ line_from_other code ln0 ln1 bad =
 
 -- ---- line_read
 
-line_read_words : (code ln0 ln1 : ℕ) → raster_ok code ≡ true → ln0 ≤ 0x3ff → ln1 ≤ 0x3ff
-    → line_read code ln0 ln1 ≡ record { refusal = 0; line = line_from code ln0 ln1 }
-unfolding line_read
-line_read_words code ln0 ln1 ok l0 l1 = rw (ok, le-leb ln0 0x3ff l0, le-leb ln1 0x3ff l1)
-
 pub line_read_of_build : (code line : ℕ) → raster_ok code ≡ true → line_ok code line ≡ true
-    → line_read code (ln0_of line) (ln1_of line) ≡ record { refusal = 0; line = line }
+    → line_read code (ln0_of line) (ln1_of line) ≡ Ok (Some line)
+unfolding line_read
 line_read_of_build code line ok on =
     let r = line_range line in
     let lines = line_ok_range code line ok on in
     let e = line_in_of_built line (omega arith) in
-    line_read_words code (ln0_of line) (ln1_of line) ok (omega arith) (omega arith)
-    ∙ rw (e, eq-eqb (ln0_of line) (ln0_of line) refl, eq-eqb (ln1_of line) (ln1_of line) refl, on)
+    let taken : read_refusal code (ln0_of line) (ln1_of line) ≡ 0 =
+    rw (ok, le-leb (ln0_of line) 0x3ff (omega arith), le-leb (ln1_of line) 0x3ff (omega arith)) in
+    let said : line_from code (ln0_of line) (ln1_of line) ≡ line =
+    rw (e, eq-eqb (ln0_of line) (ln0_of line) refl, eq-eqb (ln1_of line) (ln1_of line) refl, on) in
+    rw (taken, said, some_unless_zero line lines.0)
 
--- the words name the line that is answered: it is in range, and they are the words built for it
-abbrev Named : ℕ → ℕ → ℕ → LineRead → Type 0
-Named code ln0 ln1 r =
-    (r.refusal ≡ 0) × (raster_ok code ≡ true) × (line_ok code r.line ≡ true) × (ln0 ≡ ln0_of r.line) × (ln1 ≡ ln1_of r.line)
+-- the words name a line: it is in range, and they are the words built for it
+abbrev Named : ℕ → ℕ → ℕ → ℕ → Type 0
+Named code ln0 ln1 line = (ln0 ≡ ln0_of line) × (ln1 ≡ ln1_of line) × (line_ok code line ≡ true)
 
-line_read_cases : (code ln0 ln1 : ℕ) → ((line_read code ln0 ln1).line ≡ 0) ⊎ Named code ln0 ln1 (line_read code ln0 ln1)
-unfolding line_read
-line_read_cases code ln0 ln1 =
-    go (raster_ok code) (leb ln0 0x3ff && leb ln1 0x3ff) (eqb ln0 (ln0_of m)) (eqb ln1 (ln1_of m)) (line_ok code m)
-    (λ e. e) (eqb-true ln0 (ln0_of m)) (eqb-true ln1 (ln1_of m)) (λ e. e)
+line_from_named : (code ln0 ln1 line : ℕ) → unless_zero (line_from code ln0 ln1) ≡ Some line → Named code ln0 ln1 line
+line_from_named code ln0 ln1 line = go (eqb ln0 (ln0_of m)) (eqb ln1 (ln1_of m)) (line_ok code m) (eqb-true ln0 (ln0_of m)) (eqb-true ln1 (ln1_of m)) (λ e. e)
   where
     m : ℕ
     m = line_in ln0 ln1
 
-    reading : Bool → Bool → Bool → LineRead
-    reading a b t = if a (if b (record { refusal = 0; line = if t m 0 }) (record { refusal = 3; line = 0 })) (record { refusal = 4; line = 0 })
+    named : (n : ℕ) → unless_zero n ≡ Some line → n ≡ line
+    named zero e = cc
+    named (suc n) e = cc
 
-    go : (a b x y z : Bool) → (a ≡ true → raster_ok code ≡ true) → (x ≡ true → ln0 ≡ ln0_of m) → (y ≡ true → ln1 ≡ ln1_of m)
-        → (z ≡ true → line_ok code m ≡ true) → ((reading a b ((x && y) && z)).line ≡ 0) ⊎ Named code ln0 ln1 (reading a b ((x && y) && z))
-    go true true true true true ra fx fy fz = inr (refl, ra refl, fz refl, fx refl, fy refl)
-    go true true true true false ra fx fy fz = inl refl
-    go true true true false z ra fx fy fz = inl refl
-    go true true false y z ra fx fy fz = inl refl
-    go true false x y z ra fx fy fz = inl refl
-    go false b x y z ra fx fy fz = inl refl
+    go : (x y z : Bool) → (x ≡ true → ln0 ≡ ln0_of m) → (y ≡ true → ln1 ≡ ln1_of m) → (z ≡ true → line_ok code m ≡ true)
+        → unless_zero (if ((x && y) && z) m 0) ≡ Some line → Named code ln0 ln1 line
+    go true true true fx fy fz e = let q = named m e in rw (← q) (fx refl, fy refl, fz refl)
+    go true true false fx fy fz e = cc
+    go true false z fx fy fz e = cc
+    go false y z fx fy fz e = cc
 
 -- a line is answered only for the very words that are built for it
-pub line_build_of_read : (code ln0 ln1 l : ℕ) → line_read code ln0 ln1 ≡ record { refusal = 0; line = l } → (l ≡ 0 → ⊥)
-    → (ln0 ≡ ln0_of l) × (ln1 ≡ ln1_of l) × (line_ok code l ≡ true)
-line_build_of_read code ln0 ln1 l e some =
-    ⊎_elim (λ z. absurd (some z)) (λ n. (n.3, n.4, n.2))
-    (rw e at (line_read_cases code ln0 ln1))
+pub line_build_of_read : (code ln0 ln1 line : ℕ) → line_read code ln0 ln1 ≡ Ok (Some line) → Named code ln0 ln1 line
+unfolding line_read
+line_build_of_read code ln0 ln1 line e =
+    line_from_named code ln0 ln1 line (sym (result_of_ok (unless_zero (line_from code ln0 ln1)) (read_refusal code ln0 ln1) e).1)

@@ -2,29 +2,25 @@
 #![tactic(auto)]
 
 ghost use Rattle.std.specs.Prelude.{◌≡◌, true};
+ghost use Rattle.bits.specs.Choice.{unless_zero};
 ghost use Rattle.raster.specs.Table.{raster_ok};
 ghost use Rattle.timing.specs.Xyz.{xyz_of, read_xyz, told, reading_of};
 ghost use Rattle.timing.specs.Line.{line_words, line_from, line_read};
 
-// What an XYZ word says.
+use refusal::Refusal;
+
+// F, V and H of a timing code.
 #[derive(Clone, Copy)]
-pub enum Timing {
-    Refused,
-    Inexact,
-    Exact(bool, bool, bool),
+pub struct Fvh {
+    pub f: bool,
+    pub v: bool,
+    pub h: bool,
 }
 
-#[derive(Clone, Copy)]
+#[derive(Clone, Copy, PartialEq, Eq)]
 pub struct LineWords {
-    pub refusal: u8,
     pub ln0: u16,
     pub ln1: u16,
-}
-
-#[derive(Clone, Copy)]
-pub struct LineRead {
-    pub refusal: u8,
-    pub line: u32,
 }
 
 // The XYZ word of F, V and H.
@@ -39,86 +35,52 @@ pub fn xyz(f: bool, v: bool, h: bool) -> u16
     (512 + k * 64 + vh * 32 + fh * 16 + fv * 8 + fvh * 4) as u16
 }
 
-// F, V and H of an XYZ word, or not exact; 3.
-pub fn read_xyz(word: u16) -> Timing
+// F, V and H of an XYZ word, or none where it is not exact; 3.
+pub fn read_xyz(word: u16) -> Result<Option<Fvh>, Refusal>
     ensures answer { result ≡ read_xyz word }
     ensures means { told result ≡ reading_of word }
 {
     if word > 0x3ff {
-        return Timing::Refused;
+        return Err(Refusal::TooHigh);
     }
     let f = word / 256 % 2 == 1;
     let v = word / 128 % 2 == 1;
     let h = word / 64 % 2 == 1;
     if word == xyz(f, v, h) {
-        return Timing::Exact(f, v, h);
+        return Ok(Some(Fvh { f, v, h }));
     }
-    Timing::Inexact
+    Ok(None)
 }
 
 // LN0 and LN1 of a line; 4, 5.
-pub fn line_words(raster: u32, line: u32) -> LineWords
+pub fn line_words(raster: u32, line: u32) -> Result<LineWords, Refusal>
     ensures { result ≡ line_words raster line }
 {
-    let facts = raster::line_facts(raster, line);
-    if facts.refusal != 0 {
-        return LineWords {
-            refusal: facts.refusal,
-            ln0: 0,
-            ln1: 0,
-        };
-    }
+    raster::line_facts(raster, line)?;
     let ln0 = bits::nine((line % 128 * 4) as u16);
     let ln1 = bits::nine((line / 128 % 16 * 4) as u16);
-    LineWords {
-        refusal: 0,
-        ln0,
-        ln1,
-    }
+    Ok(LineWords { ln0, ln1 })
 }
 
-// The line whose words are LN0 and LN1, or 0.
-fn line_from(raster: u32, ln0: u16, ln1: u16) -> u32
+// The line whose words are LN0 and LN1, if there is one.
+fn line_from(raster: u32, ln0: u16, ln1: u16) -> Option<u32>
     requires { raster_ok raster ≡ true }
-    ensures { result ≡ line_from raster ln0 ln1 }
+    ensures { result ≡ unless_zero (line_from raster ln0 ln1) }
 {
     let line = (ln0 / 4 % 128) as u32 + (ln1 / 4 % 16) as u32 * 128;
-    let built = line_words(raster, line);
-    if built.refusal != 0 {
-        return 0;
+    match line_words(raster, line) {
+        Ok(built) if built == (LineWords { ln0, ln1 }) => Some(line),
+        _ => None,
     }
-    if built.ln0 != ln0 {
-        return 0;
-    }
-    if built.ln1 != ln1 {
-        return 0;
-    }
-    line
 }
 
-// The line of LN0 and LN1, or 0; 4, 3.
-pub fn read_line(raster: u32, ln0: u16, ln1: u16) -> LineRead
+// The line of LN0 and LN1, or none; 4, 3.
+pub fn read_line(raster: u32, ln0: u16, ln1: u16) -> Result<Option<u32>, Refusal>
     ensures { result ≡ line_read raster ln0 ln1 }
 {
-    let looked = raster::raster_of(raster);
-    if looked.refusal != 0 {
-        return LineRead {
-            refusal: 4,
-            line: 0,
-        };
+    raster::raster_of(raster)?;
+    if ln0 > 0x3ff || ln1 > 0x3ff {
+        return Err(Refusal::TooHigh);
     }
-    if ln0 > 0x3ff {
-        return LineRead {
-            refusal: 3,
-            line: 0,
-        };
-    }
-    if ln1 > 0x3ff {
-        return LineRead {
-            refusal: 3,
-            line: 0,
-        };
-    }
-    let line = line_from(raster, ln0, ln1);
-    LineRead { refusal: 0, line }
+    Ok(line_from(raster, ln0, ln1))
 }

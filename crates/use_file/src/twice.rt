@@ -4,37 +4,15 @@ ghost use Rattle.std.specs.Prelude.{◌≡◌};
 
 use desk::{Desk, Outcome, Taken};
 use label::Label;
+use refusal::Refusal;
 
-#[derive(Clone, Copy)]
-pub struct TwoDesks {
-    pub first: Desk,
-    pub second: Desk,
-}
+// The answers of two calls.
+type Twice<A> = (A, A);
 
-#[derive(Clone, Copy)]
-pub struct TwoTaken {
-    pub first: Taken,
-    pub second: Taken,
-}
-
-#[derive(Clone, Copy)]
-pub struct TwoOutcomes {
-    pub first: Outcome,
-    pub second: Outcome,
-}
-
-#[derive(Clone, Copy)]
-pub struct TwoLabels {
-    pub first: Label,
-    pub second: Label,
-}
-
-pub fn fresh() -> TwoDesks
-    ensures { result.first ≡ result.second }
+pub fn fresh() -> Twice<Desk>
+    ensures { result.0 ≡ result.1 }
 {
-    let first = Desk::fresh();
-    let second = Desk::fresh();
-    TwoDesks { first, second }
+    (Desk::fresh(), Desk::fresh())
 }
 
 // The same bytes, with their row buffers in two pairs of slices.
@@ -45,26 +23,20 @@ pub fn take(
     c: &mut [u16],
     u: &mut [u16],
     d: &mut [u16],
-) -> TwoTaken
-    ensures { y.old ≡ u.old → c.old ≡ d.old → (result.first ≡ result.second) × (y.new ≡ u.new) × (c.new ≡ d.new) }
+) -> Twice<Result<Taken, Refusal>>
+    ensures { y.old ≡ u.old → c.old ≡ d.old → (result.0 ≡ result.1) × ((y.new ≡ u.new) × (c.new ≡ d.new)) }
 {
-    let first = desk.take(bytes, y, c);
-    let second = desk.take(bytes, u, d);
-    TwoTaken { first, second }
+    (desk.take(bytes, y, c), desk.take(bytes, u, d))
 }
 
-pub fn finish(desk: Desk) -> TwoOutcomes
-    ensures { result.first ≡ result.second }
+pub fn finish(desk: Desk) -> Twice<Outcome>
+    ensures { result.0 ≡ result.1 }
 {
-    let first = desk.finish();
-    let second = desk.finish();
-    TwoOutcomes { first, second }
+    (desk.finish(), desk.finish())
 }
 
-pub fn label_of(outcome: Outcome) -> TwoLabels
-    ensures { result.first ≡ result.second }
+pub fn label_of(outcome: Outcome) -> Twice<Label>
+    ensures { result.0 ≡ result.1 }
 {
-    let first = label::label_of(outcome);
-    let second = label::label_of(outcome);
-    TwoLabels { first, second }
+    (label::label_of(outcome), label::label_of(outcome))
 }

@@ -1,3 +1,2 @@
-pub mod CodedTwice
-pub mod CodedRefused
+pub mod Filled
 pub mod ThereAndBack

@@ -1,106 +1,102 @@
 // "Each call does its work or returns one number of the refusal table": each function of the leaves that can refuse, called once with
 // whatever it is given. A clause for each number: its condition, where none stands before it in the order of the table; `done` where
-// there is none; `zeros`, "A refusal returns its number with zeros"; and what becomes of each lent buffer.
+// there is none; and what becomes of each lent buffer.
 ghost use Rattle.std.specs.Prelude.{◌≡◌, true, false, ◌&&◌, [], ◌∷◌, ◌≤◌, ◌<◌, length, drop};
-ghost use Rattle.std.proofs.Math.Option.{none};
 ghost use Rattle.bits.specs.Words.{words10};
-ghost use Rattle.raster.specs.Table.{raster_ok, no_raster};
+ghost use Rattle.refusal.specs.Refusal.{refusal_of};
+ghost use Rattle.raster.specs.Table.{raster_ok};
 ghost use Rattle.raster.specs.Lines.{line_ok};
 ghost use Rattle.crc.specs.Crc.{register_ok};
-ghost use Rattle.align.specs.Sync.{sync_refusal, sync_place};
-ghost use Rattle.timing.specs.Xyz.{told, reading};
 
-use align::Sync;
-use cable::Coded;
-use crc::{CrcWords, Ran};
-use raster::{LineFacts, LookedUp};
-use timing::{LineRead, LineWords, Timing};
+use align::SyncPlace;
+use crc::CrcWords;
+use raster::{LineFacts, Raster};
+use refusal::Refusal;
+use timing::{Fvh, LineWords};
 
-pub fn raster_of(code: u32) -> LookedUp
-    ensures four { raster_ok code ≡ false → result.refusal ≡ 4 }
-    ensures done { raster_ok code ≡ true → result.refusal ≡ 0 }
-    ensures zeros { 0 < result.refusal → result.raster ≡ no_raster }
+#[tactic(auto, unfolding(raster::specs::Table::looked_up, refusal::specs::Refusal::refusal_numbered))]
+pub fn raster_of(code: u32) -> Result<Raster, Refusal>
+    ensures four { raster_ok code ≡ false → refusal_of result ≡ 4 }
+    ensures done { raster_ok code ≡ true → refusal_of result ≡ 0 }
 {
     raster::raster_of(code)
 }
 
-pub fn line_facts(raster: u32, line: u32) -> LineFacts
-    ensures four { raster_ok raster ≡ false → result.refusal ≡ 4 }
-    ensures five { raster_ok raster ≡ true → line_ok raster line ≡ false → result.refusal ≡ 5 }
-    ensures done { raster_ok raster ≡ true → line_ok raster line ≡ true → result.refusal ≡ 0 }
-    ensures zeros { 0 < result.refusal → (result.v ≡ false) × (result.f ≡ false) }
+#[tactic(auto, unfolding(raster::specs::Lines::line_facts, refusal::specs::Refusal::refusal_numbered))]
+pub fn line_facts(raster: u32, line: u32) -> Result<LineFacts, Refusal>
+    ensures four { raster_ok raster ≡ false → refusal_of result ≡ 4 }
+    ensures five { raster_ok raster ≡ true → line_ok raster line ≡ false → refusal_of result ≡ 5 }
+    ensures done { raster_ok raster ≡ true → line_ok raster line ≡ true → refusal_of result ≡ 0 }
 {
     raster::line_facts(raster, line)
 }
 
-pub fn run(register: u32, words: &[u16]) -> Ran
-    ensures three { (register_ok register && words10 words.now) ≡ false → result.refusal ≡ 3 }
-    ensures done { (register_ok register && words10 words.now) ≡ true → result.refusal ≡ 0 }
-    ensures zeros { 0 < result.refusal → result.register ≡ 0 }
+#[tactic(auto, unfolding(crc::specs::Crc::ran))]
+pub fn run(register: u32, words: &[u16]) -> Result<u32, Refusal>
+    ensures three { (register_ok register && words10 words.now) ≡ false → refusal_of result ≡ 3 }
+    ensures done { (register_ok register && words10 words.now) ≡ true → refusal_of result ≡ 0 }
 {
     crc::run(register, words)
 }
 
-pub fn words_of(register: u32) -> CrcWords
-    ensures three { register_ok register ≡ false → result.refusal ≡ 3 }
-    ensures done { register_ok register ≡ true → result.refusal ≡ 0 }
-    ensures zeros { 0 < result.refusal → (result.cr0 ≡ 0) × (result.cr1 ≡ 0) }
+#[tactic(auto, unfolding(crc::specs::Crc::cr_words))]
+pub fn words_of(register: u32) -> Result<CrcWords, Refusal>
+    ensures three { register_ok register ≡ false → refusal_of result ≡ 3 }
+    ensures done { register_ok register ≡ true → refusal_of result ≡ 0 }
 {
     crc::words_of(register)
 }
 
-pub fn scramble(history: u16, words: &[u16], out: &mut [u16]) -> Coded
-    ensures three { words10 (history ∷ words.now) ≡ false → result.refusal ≡ 3 }
-    ensures one { words10 (history ∷ words.now) ≡ true → length out.old < length words.now → result.refusal ≡ 1 }
-    ensures done { words10 (history ∷ words.now) ≡ true → length words.now ≤ length out.old → result.refusal ≡ 0 }
-    ensures zeros { 0 < result.refusal → result.history ≡ 0 }
-    ensures unchanged { 0 < result.refusal → out.new ≡ out.old }
+#[tactic(auto, using(crate::proofs::Filled::scramble_beyond), unfolding(cable::specs::Words::code_refusal, bits::specs::Words::words10, refusal::specs::Refusal::refusal_numbered))]
+pub fn scramble(history: u16, words: &[u16], out: &mut [u16]) -> Result<u16, Refusal>
+    ensures three { words10 (history ∷ words.now) ≡ false → refusal_of result ≡ 3 }
+    ensures one { words10 (history ∷ words.now) ≡ true → length out.old < length words.now → refusal_of result ≡ 1 }
+    ensures done { words10 (history ∷ words.now) ≡ true → length words.now ≤ length out.old → refusal_of result ≡ 0 }
+    ensures unchanged { 0 < refusal_of result → out.new ≡ out.old }
     ensures beyond { drop (length words.now) out.new ≡ drop (length words.now) out.old }
 {
     cable::scramble(history, words, out)
 }
 
-pub fn unscramble(history: u16, words: &[u16], out: &mut [u16]) -> Coded
-    ensures three { words10 (history ∷ words.now) ≡ false → result.refusal ≡ 3 }
-    ensures one { words10 (history ∷ words.now) ≡ true → length out.old < length words.now → result.refusal ≡ 1 }
-    ensures done { words10 (history ∷ words.now) ≡ true → length words.now ≤ length out.old → result.refusal ≡ 0 }
-    ensures zeros { 0 < result.refusal → result.history ≡ 0 }
-    ensures unchanged { 0 < result.refusal → out.new ≡ out.old }
+#[tactic(auto, using(crate::proofs::Filled::unscramble_beyond), unfolding(cable::specs::Words::code_refusal, bits::specs::Words::words10, refusal::specs::Refusal::refusal_numbered))]
+pub fn unscramble(history: u16, words: &[u16], out: &mut [u16]) -> Result<u16, Refusal>
+    ensures three { words10 (history ∷ words.now) ≡ false → refusal_of result ≡ 3 }
+    ensures one { words10 (history ∷ words.now) ≡ true → length out.old < length words.now → refusal_of result ≡ 1 }
+    ensures done { words10 (history ∷ words.now) ≡ true → length words.now ≤ length out.old → refusal_of result ≡ 0 }
+    ensures unchanged { 0 < refusal_of result → out.new ≡ out.old }
     ensures beyond { drop (length words.now) out.new ≡ drop (length words.now) out.old }
 {
     cable::unscramble(history, words, out)
 }
 
-pub fn find_sync(words: &[u16]) -> Sync
-    ensures three { words10 words.now ≡ false → sync_refusal result ≡ 3 }
-    ensures done { words10 words.now ≡ true → sync_refusal result ≡ 0 }
-    ensures zeros { 0 < sync_refusal result → sync_place result ≡ none }
+pub fn find_sync(words: &[u16]) -> Result<Option<SyncPlace>, Refusal>
+    ensures three { words10 words.now ≡ false → refusal_of result ≡ 3 }
+    ensures done { words10 words.now ≡ true → refusal_of result ≡ 0 }
 {
     align::find_sync(words)
 }
 
-pub fn read_xyz(word: u16) -> Timing
-    ensures three { 0x3ff < word → (told result).refusal ≡ 3 }
-    ensures done { word ≤ 0x3ff → (told result).refusal ≡ 0 }
-    ensures zeros { 0 < (told result).refusal → told result ≡ reading (told result).refusal false false false false }
+pub fn read_xyz(word: u16) -> Result<Option<Fvh>, Refusal>
+    ensures three { 0x3ff < word → refusal_of result ≡ 3 }
+    ensures done { word ≤ 0x3ff → refusal_of result ≡ 0 }
 {
     timing::read_xyz(word)
 }
 
-pub fn line_words(raster: u32, line: u32) -> LineWords
-    ensures four { raster_ok raster ≡ false → result.refusal ≡ 4 }
-    ensures five { raster_ok raster ≡ true → line_ok raster line ≡ false → result.refusal ≡ 5 }
-    ensures done { raster_ok raster ≡ true → line_ok raster line ≡ true → result.refusal ≡ 0 }
-    ensures zeros { 0 < result.refusal → (result.ln0 ≡ 0) × (result.ln1 ≡ 0) }
+#[tactic(auto, unfolding(timing::specs::Line::line_words, refusal::specs::Refusal::refusal_numbered))]
+pub fn line_words(raster: u32, line: u32) -> Result<LineWords, Refusal>
+    ensures four { raster_ok raster ≡ false → refusal_of result ≡ 4 }
+    ensures five { raster_ok raster ≡ true → line_ok raster line ≡ false → refusal_of result ≡ 5 }
+    ensures done { raster_ok raster ≡ true → line_ok raster line ≡ true → refusal_of result ≡ 0 }
 {
     timing::line_words(raster, line)
 }
 
-pub fn read_line(raster: u32, ln0: u16, ln1: u16) -> LineRead
-    ensures four { raster_ok raster ≡ false → result.refusal ≡ 4 }
-    ensures three { raster_ok raster ≡ true → words10 (ln0 ∷ ln1 ∷ []) ≡ false → result.refusal ≡ 3 }
-    ensures done { raster_ok raster ≡ true → words10 (ln0 ∷ ln1 ∷ []) ≡ true → result.refusal ≡ 0 }
-    ensures zeros { 0 < result.refusal → result.line ≡ 0 }
+#[tactic(auto, unfolding(timing::specs::Line::line_read, bits::specs::Words::words10, refusal::specs::Refusal::refusal_numbered))]
+pub fn read_line(raster: u32, ln0: u16, ln1: u16) -> Result<Option<u32>, Refusal>
+    ensures four { raster_ok raster ≡ false → refusal_of result ≡ 4 }
+    ensures three { raster_ok raster ≡ true → words10 (ln0 ∷ ln1 ∷ []) ≡ false → refusal_of result ≡ 3 }
+    ensures done { raster_ok raster ≡ true → words10 (ln0 ∷ ln1 ∷ []) ≡ true → refusal_of result ≡ 0 }
 {
     timing::read_line(raster, ln0, ln1)
 }

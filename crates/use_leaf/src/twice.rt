@@ -2,170 +2,111 @@
 // equal buffers follow from its contract alone.
 ghost use Rattle.std.specs.Prelude.{◌≡◌};
 
-use align::Sync;
-use cable::Coded;
-use crc::{CrcWords, Ran};
-use raster::{Kind, LineFacts, LookedUp};
-use timing::{LineRead, LineWords, Timing};
+use align::SyncPlace;
+use crc::CrcWords;
+use raster::{Kind, LineFacts, Raster};
+use refusal::Refusal;
+use timing::{Fvh, LineWords};
 
-#[derive(Clone, Copy)]
-pub struct Words {
-    pub first: u16,
-    pub second: u16,
-}
+// The answers of two calls.
+type Twice<A> = (A, A);
 
-#[derive(Clone, Copy)]
-pub struct Numbers {
-    pub first: u32,
-    pub second: u32,
-}
-
-#[derive(Clone, Copy)]
-pub struct TwoLookedUp {
-    pub first: LookedUp,
-    pub second: LookedUp,
-}
-
-#[derive(Clone, Copy)]
-pub struct TwoLineFacts {
-    pub first: LineFacts,
-    pub second: LineFacts,
-}
-
-#[derive(Clone, Copy)]
-pub struct TwoRan {
-    pub first: Ran,
-    pub second: Ran,
-}
-
-#[derive(Clone, Copy)]
-pub struct TwoCrcWords {
-    pub first: CrcWords,
-    pub second: CrcWords,
-}
-
-#[derive(Clone, Copy)]
-pub struct TwoCoded {
-    pub first: Coded,
-    pub second: Coded,
-}
-
-#[derive(Clone, Copy)]
-pub struct TwoSyncs {
-    pub first: Sync,
-    pub second: Sync,
-}
-
-#[derive(Clone, Copy)]
-pub struct TwoTimings {
-    pub first: Timing,
-    pub second: Timing,
-}
-
-#[derive(Clone, Copy)]
-pub struct TwoLineWords {
-    pub first: LineWords,
-    pub second: LineWords,
-}
-
-#[derive(Clone, Copy)]
-pub struct TwoLineReads {
-    pub first: LineRead,
-    pub second: LineRead,
-}
-
-pub fn raster_of(code: u32) -> TwoLookedUp
-    ensures { result.first ≡ result.second }
+pub fn raster_of(code: u32) -> Twice<Result<Raster, Refusal>>
+    ensures { result.0 ≡ result.1 }
 {
-    let first = raster::raster_of(code);
-    let second = raster::raster_of(code);
-    TwoLookedUp { first, second }
+    (raster::raster_of(code), raster::raster_of(code))
 }
 
-pub fn name(total: u32, active: u32, rows: u32, kind: Kind) -> Numbers
-    ensures { result.first ≡ result.second }
+pub fn name(total: u32, active: u32, rows: u32, kind: Kind) -> Twice<Option<u32>>
+    ensures { result.0 ≡ result.1 }
 {
-    let first = raster::name(total, active, rows, kind);
-    let second = raster::name(total, active, rows, kind);
-    Numbers { first, second }
+    (
+        raster::name(total, active, rows, kind),
+        raster::name(total, active, rows, kind),
+    )
 }
 
-pub fn line_facts(raster: u32, line: u32) -> TwoLineFacts
-    ensures { result.first ≡ result.second }
+pub fn line_facts(raster: u32, line: u32) -> Twice<Result<LineFacts, Refusal>>
+    ensures { result.0 ≡ result.1 }
 {
-    let first = raster::line_facts(raster, line);
-    let second = raster::line_facts(raster, line);
-    TwoLineFacts { first, second }
+    (
+        raster::line_facts(raster, line),
+        raster::line_facts(raster, line),
+    )
 }
 
-pub fn run(register: u32, words: &[u16]) -> TwoRan
-    ensures { result.first ≡ result.second }
+pub fn run(register: u32, words: &[u16]) -> Twice<Result<u32, Refusal>>
+    ensures { result.0 ≡ result.1 }
 {
-    let first = crc::run(register, words);
-    let second = crc::run(register, words);
-    TwoRan { first, second }
+    (crc::run(register, words), crc::run(register, words))
 }
 
-pub fn words_of(register: u32) -> TwoCrcWords
-    ensures { result.first ≡ result.second }
+pub fn words_of(register: u32) -> Twice<Result<CrcWords, Refusal>>
+    ensures { result.0 ≡ result.1 }
 {
-    let first = crc::words_of(register);
-    let second = crc::words_of(register);
-    TwoCrcWords { first, second }
+    (crc::words_of(register), crc::words_of(register))
 }
 
-pub fn find_sync(words: &[u16]) -> TwoSyncs
-    ensures { result.first ≡ result.second }
+pub fn find_sync(words: &[u16]) -> Twice<Result<Option<SyncPlace>, Refusal>>
+    ensures { result.0 ≡ result.1 }
 {
-    let first = align::find_sync(words);
-    let second = align::find_sync(words);
-    TwoSyncs { first, second }
+    (align::find_sync(words), align::find_sync(words))
 }
 
-pub fn xyz(f: bool, v: bool, h: bool) -> Words
-    ensures { result.first ≡ result.second }
+pub fn xyz(f: bool, v: bool, h: bool) -> Twice<u16>
+    ensures { result.0 ≡ result.1 }
 {
-    let first = timing::xyz(f, v, h);
-    let second = timing::xyz(f, v, h);
-    Words { first, second }
+    (timing::xyz(f, v, h), timing::xyz(f, v, h))
 }
 
-pub fn read_xyz(word: u16) -> TwoTimings
-    ensures { result.first ≡ result.second }
+pub fn read_xyz(word: u16) -> Twice<Result<Option<Fvh>, Refusal>>
+    ensures { result.0 ≡ result.1 }
 {
-    let first = timing::read_xyz(word);
-    let second = timing::read_xyz(word);
-    TwoTimings { first, second }
+    (timing::read_xyz(word), timing::read_xyz(word))
 }
 
-pub fn line_words(raster: u32, line: u32) -> TwoLineWords
-    ensures { result.first ≡ result.second }
+pub fn line_words(raster: u32, line: u32) -> Twice<Result<LineWords, Refusal>>
+    ensures { result.0 ≡ result.1 }
 {
-    let first = timing::line_words(raster, line);
-    let second = timing::line_words(raster, line);
-    TwoLineWords { first, second }
+    (
+        timing::line_words(raster, line),
+        timing::line_words(raster, line),
+    )
 }
 
-pub fn read_line(raster: u32, ln0: u16, ln1: u16) -> TwoLineReads
-    ensures { result.first ≡ result.second }
+pub fn read_line(raster: u32, ln0: u16, ln1: u16) -> Twice<Result<Option<u32>, Refusal>>
+    ensures { result.0 ≡ result.1 }
 {
-    let first = timing::read_line(raster, ln0, ln1);
-    let second = timing::read_line(raster, ln0, ln1);
-    TwoLineReads { first, second }
+    (
+        timing::read_line(raster, ln0, ln1),
+        timing::read_line(raster, ln0, ln1),
+    )
 }
 
-pub fn scramble(history: u16, words: &[u16], a: &mut [u16], b: &mut [u16]) -> TwoCoded
-    ensures { a.old ≡ b.old → (result.first ≡ result.second) × (a.new ≡ b.new) }
+pub fn scramble(
+    history: u16,
+    words: &[u16],
+    a: &mut [u16],
+    b: &mut [u16],
+) -> Twice<Result<u16, Refusal>>
+    ensures { a.old ≡ b.old → (result.0 ≡ result.1) × (a.new ≡ b.new) }
 {
-    let first = cable::scramble(history, words, a);
-    let second = cable::scramble(history, words, b);
-    TwoCoded { first, second }
+    (
+        cable::scramble(history, words, a),
+        cable::scramble(history, words, b),
+    )
 }
 
-pub fn unscramble(history: u16, words: &[u16], a: &mut [u16], b: &mut [u16]) -> TwoCoded
-    ensures { a.old ≡ b.old → (result.first ≡ result.second) × (a.new ≡ b.new) }
+pub fn unscramble(
+    history: u16,
+    words: &[u16],
+    a: &mut [u16],
+    b: &mut [u16],
+) -> Twice<Result<u16, Refusal>>
+    ensures { a.old ≡ b.old → (result.0 ≡ result.1) × (a.new ≡ b.new) }
 {
-    let first = cable::unscramble(history, words, a);
-    let second = cable::unscramble(history, words, b);
-    TwoCoded { first, second }
+    (
+        cable::unscramble(history, words, a),
+        cable::unscramble(history, words, b),
+    )
 }

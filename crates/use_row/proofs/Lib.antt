@@ -1,5 +1,5 @@
-pub mod PacketsRefused
-pub mod RowsRefused
+pub mod Buffers
+pub mod Cases
 pub mod Parting
 pub mod Received
 pub mod TwoRows

@@ -1,23 +1,13 @@
--- Cable words that are unscrambled into a buffer: their number, and the buffer's first words.
-use mathlib.Core.Path.{◌≡◌, refl, ap, ◌∙◌}
+-- Cable words that are unscrambled into a buffer: the buffer's first words.
+use mathlib.Core.Path.{◌≡◌, ap, ◌∙◌}
 use mathlib.Core.List.{List}
 use Prim.Native.Nat.{ℕ}
 use lib.ListN.{length}
 use lib.Seq.{take_at}
-use Rattle.cable.specs.declared.Coded.{Coded}
-use Rattle.cable.specs.Words.{code_refusal, coded, filled, unscramble_next, unscramble_words}
+use Rattle.cable.specs.Words.{code_refusal, filled, unscramble_words}
 use Rattle.cable.proofs.Words.{length_unscramble}
 use Rattle.parts.specs.Parts.{part}
-use Rattle.law_refusal.proofs.Answers.{answered}
 
-pub unscramble_number : (h : ℕ) (ws out : List ℕ) {r : Coded} → r ≡ coded (code_refusal h ws (length out)) (unscramble_next h ws)
-    → r.refusal ≡ code_refusal h ws (length out)
-unscramble_number h ws out e =
-    ap (λ r. r.refusal) e
-    ∙ (answered (λ (x : Coded). x.refusal) (λ (x : Coded). x.history ≡ 0) (λ (n : ℕ). coded n (unscramble_next h ws)) refl (λ m. (refl, refl))
-    (code_refusal h ws (length out))).0
-
--- the output's first words are those that were unscrambled
 pub unscramble_words_sent : (h : ℕ) (ws out sent : List ℕ) {after : List ℕ} → code_refusal h ws (length out) ≡ 0
     → after ≡ filled (code_refusal h ws (length out)) (unscramble_words h ws) out → sent ≡ part 0 (length ws) after → sent ≡ unscramble_words h ws
 unscramble_words_sent h ws out sent ok f s =

@@ -2,54 +2,29 @@
 // answers and equal buffers follow from its contract alone.
 ghost use Rattle.std.specs.Prelude.{◌≡◌, true};
 
-use finding::{Channel, Extracted};
-use repair::Corrected;
-use row::{Carry, Checked};
+use finding::Channel;
+use refusal::Refusal;
+use row::{Carry, Judged};
 
-#[derive(Clone, Copy)]
-pub struct Numbers {
-    pub first: u8,
-    pub second: u8,
-}
+// The answers of two calls.
+type Twice<A> = (A, A);
 
-#[derive(Clone, Copy)]
-pub struct TwoPackets {
-    pub first: packet::Built,
-    pub second: packet::Built,
-}
-
-#[derive(Clone, Copy)]
-pub struct TwoExtracted {
-    pub first: Extracted,
-    pub second: Extracted,
-}
-
-#[derive(Clone, Copy)]
-pub struct TwoChecked {
-    pub first: Checked,
-    pub second: Checked,
-}
-
-#[derive(Clone, Copy)]
-pub struct TwoCorrected {
-    pub first: Corrected,
-    pub second: Corrected,
-}
-
-#[derive(Clone, Copy)]
-pub struct TwoRows {
-    pub first: compose::Built,
-    pub second: compose::Built,
-}
-
-pub fn build_packet(did: u8, sdid: u8, user: &[u16], a: &mut [u16], b: &mut [u16]) -> TwoPackets
-    ensures { a.old ≡ b.old → (result.first ≡ result.second) × (a.new ≡ b.new) }
+pub fn build_packet(
+    did: u8,
+    sdid: u8,
+    user: &[u16],
+    a: &mut [u16],
+    b: &mut [u16],
+) -> Twice<Result<usize, Refusal>>
+    ensures { a.old ≡ b.old → (result.0 ≡ result.1) × (a.new ≡ b.new) }
 {
-    let first = packet::build(did, sdid, user, a);
-    let second = packet::build(did, sdid, user, b);
-    TwoPackets { first, second }
+    (
+        packet::build(did, sdid, user, a),
+        packet::build(did, sdid, user, b),
+    )
 }
 
+#[tactic(auto, using(parts::proofs::Comparing::same_refl))]
 pub fn find<'a>(raster: u32, line: u32, did: u8, sdid: u8, y: &'a [u16], c: &'a [u16]) -> bool
     ensures { result ≡ true }
 {
@@ -58,12 +33,20 @@ pub fn find<'a>(raster: u32, line: u32, did: u8, sdid: u8, y: &'a [u16], c: &'a 
     parts::same(first, second)
 }
 
-pub fn find_refusal(raster: u32, line: u32, did: u8, sdid: u8, y: &[u16], c: &[u16]) -> Numbers
-    ensures { result.first ≡ result.second }
+pub fn find_refusal(
+    raster: u32,
+    line: u32,
+    did: u8,
+    sdid: u8,
+    y: &[u16],
+    c: &[u16],
+) -> Twice<Result<(), Refusal>>
+    ensures { result.0 ≡ result.1 }
 {
-    let first = finding::find_refusal(raster, line, did, sdid, y, c);
-    let second = finding::find_refusal(raster, line, did, sdid, y, c);
-    Numbers { first, second }
+    (
+        finding::find_refusal(raster, line, did, sdid, y, c),
+        finding::find_refusal(raster, line, did, sdid, y, c),
+    )
 }
 
 pub fn extract(
@@ -74,20 +57,28 @@ pub fn extract(
     c: &[u16],
     a: &mut [u16],
     b: &mut [u16],
-) -> TwoExtracted
-    ensures { a.old ≡ b.old → (result.first ≡ result.second) × (a.new ≡ b.new) }
+) -> Twice<Result<usize, Refusal>>
+    ensures { a.old ≡ b.old → (result.0 ≡ result.1) × (a.new ≡ b.new) }
 {
-    let first = finding::extract(raster, line, channel, y, c, a);
-    let second = finding::extract(raster, line, channel, y, c, b);
-    TwoExtracted { first, second }
+    (
+        finding::extract(raster, line, channel, y, c, a),
+        finding::extract(raster, line, channel, y, c, b),
+    )
 }
 
-pub fn check(raster: u32, line: u32, carry: Carry, y: &[u16], c: &[u16]) -> TwoChecked
-    ensures { result.first ≡ result.second }
+pub fn check(
+    raster: u32,
+    line: u32,
+    carry: Carry,
+    y: &[u16],
+    c: &[u16],
+) -> Twice<Result<Judged, Refusal>>
+    ensures { result.0 ≡ result.1 }
 {
-    let first = row::check(raster, line, carry, y, c);
-    let second = row::check(raster, line, carry, y, c);
-    TwoChecked { first, second }
+    (
+        row::check(raster, line, carry, y, c),
+        row::check(raster, line, carry, y, c),
+    )
 }
 
 // One row in two pairs of slices.
@@ -100,12 +91,13 @@ pub fn correct(
     c: &mut [u16],
     u: &mut [u16],
     d: &mut [u16],
-) -> TwoCorrected
-    ensures { y.old ≡ u.old → c.old ≡ d.old → (result.first ≡ result.second) × ((y.new ≡ u.new) × (c.new ≡ d.new)) }
+) -> Twice<Result<Carry, Refusal>>
+    ensures { y.old ≡ u.old → c.old ≡ d.old → (result.0 ≡ result.1) × ((y.new ≡ u.new) × (c.new ≡ d.new)) }
 {
-    let first = repair::correct(raster, line, carry, wiping, y, c);
-    let second = repair::correct(raster, line, carry, wiping, u, d);
-    TwoCorrected { first, second }
+    (
+        repair::correct(raster, line, carry, wiping, y, c),
+        repair::correct(raster, line, carry, wiping, u, d),
+    )
 }
 
 pub fn build_row(
@@ -120,10 +112,11 @@ pub fn build_row(
     c: &mut [u16],
     u: &mut [u16],
     d: &mut [u16],
-) -> TwoRows
-    ensures { y.old ≡ u.old → c.old ≡ d.old → (result.first ≡ result.second) × ((y.new ≡ u.new) × (c.new ≡ d.new)) }
+) -> Twice<Result<Carry, Refusal>>
+    ensures { y.old ≡ u.old → c.old ≡ d.old → (result.0 ≡ result.1) × ((y.new ≡ u.new) × (c.new ≡ d.new)) }
 {
-    let first = compose::build(raster, line, carry, yactive, cactive, ylaid, claid, y, c);
-    let second = compose::build(raster, line, carry, yactive, cactive, ylaid, claid, u, d);
-    TwoRows { first, second }
+    (
+        compose::build(raster, line, carry, yactive, cactive, ylaid, claid, y, c),
+        compose::build(raster, line, carry, yactive, cactive, ylaid, claid, u, d),
+    )
 }

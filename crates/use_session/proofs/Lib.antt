@@ -1,4 +1,4 @@
-pub mod CallsRefused
+pub mod Beyond
 pub mod Benches
 pub mod Cut
 pub mod Held

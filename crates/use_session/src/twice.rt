@@ -2,46 +2,22 @@
 // equal answers and equal buffers follow from its contract alone.
 ghost use Rattle.std.specs.Prelude.{◌≡◌};
 
-use session::{Begun, Ended, Fed, Session};
+use refusal::Refusal;
+use session::{Ended, Session};
 
-#[derive(Clone, Copy)]
-pub struct TwoSessions {
-    pub first: Session,
-    pub second: Session,
-}
+// The answers of two calls.
+type Twice<A> = (A, A);
 
-#[derive(Clone, Copy)]
-pub struct TwoBegun {
-    pub first: Begun,
-    pub second: Begun,
-}
-
-#[derive(Clone, Copy)]
-pub struct TwoFed {
-    pub first: Fed,
-    pub second: Fed,
-}
-
-#[derive(Clone, Copy)]
-pub struct TwoEnded {
-    pub first: Ended,
-    pub second: Ended,
-}
-
-pub fn fresh() -> TwoSessions
-    ensures { result.first ≡ result.second }
+pub fn fresh() -> Twice<Session>
+    ensures { result.0 ≡ result.1 }
 {
-    let first = Session::fresh();
-    let second = Session::fresh();
-    TwoSessions { first, second }
+    (Session::fresh(), Session::fresh())
 }
 
-pub fn begin(session: Session, raster: u32) -> TwoBegun
-    ensures { result.first ≡ result.second }
+pub fn begin(session: Session, raster: u32) -> Twice<Result<Session, Refusal>>
+    ensures { result.0 ≡ result.1 }
 {
-    let first = session.begin(raster);
-    let second = session.begin(raster);
-    TwoBegun { first, second }
+    (session.begin(raster), session.begin(raster))
 }
 
 // One feed, with its row buffers in two pairs of slices.
@@ -52,18 +28,14 @@ pub fn feed(
     c: &mut [u16],
     u: &mut [u16],
     d: &mut [u16],
-) -> TwoFed
-    ensures { y.old ≡ u.old → c.old ≡ d.old → (result.first ≡ result.second) × ((y.new ≡ u.new) × (c.new ≡ d.new)) }
+) -> Twice<Result<Session, Refusal>>
+    ensures { y.old ≡ u.old → c.old ≡ d.old → (result.0 ≡ result.1) × ((y.new ≡ u.new) × (c.new ≡ d.new)) }
 {
-    let first = session.feed(words, y, c);
-    let second = session.feed(words, u, d);
-    TwoFed { first, second }
+    (session.feed(words, y, c), session.feed(words, u, d))
 }
 
-pub fn end(session: Session) -> TwoEnded
-    ensures { result.first ≡ result.second }
+pub fn end(session: Session) -> Twice<Result<Ended, Refusal>>
+    ensures { result.0 ≡ result.1 }
 {
-    let first = session.end();
-    let second = session.end();
-    TwoEnded { first, second }
+    (session.end(), session.end())
 }

@@ -1,17 +1,13 @@
-use mathlib.Core.Path.{refl, sym, ◌∙◌}
-use native.Mathlib.Omega.{arith}
-use Rattle.bits.proofs.Words.{words10_step, words10_end}
+use mathlib.Core.Path.{◌∙◌}
+use mathlib.Core.Bool.{true, ◌&&◌}
+use lib.Dec.{leb}
+use borrow.Author.Rules.{rules}
+use Rattle.std.proofs.lemmas.Iterator.{YieldsList-from_slice}
+use Rattle.std.proofs.lemmas.Iterator.Consumers.{fold_from_yields_List}
+use Rattle.bits.proofs.Words.{words10_fold}
 use Rattle.bits.proofs.all_words.Goals as goal
-
-pub loop-i-init : goal.loop-i-init
-loop-i-init c = (omega arith, refl)
-
-pub loop-i-preserved : goal.loop-i-preserved
-loop-i-preserved c =
-    let at = c.loop-i in
-    (omega arith, words10_step at.all at.i _ (omega arith) ∙ at.invariant.1)
 
 pub returns : goal.returns
 returns c =
-    let at = c.loop-i in
-    sym (words10_end at.all at.i _ (omega arith)) ∙ at.invariant.1
+    fold_from_yields_List _ (λ all w. all && leb w 0x3ff) true _ c.fold.ensures.ran (YieldsList-from_slice c.args.words.now cc) (λ a x b q k. search rules)
+    ∙ words10_fold true c.args.words.now

@@ -1,20 +1,22 @@
--- unscramble: a refusal leaves the output; without one, history, words and room are as unscramble_all wants them.
+-- unscramble: without a refusal, history, words and room are as code wants them, and its steps are those of the definition.
 use mathlib.Core.Path.{sym, ◌∙◌}
 use native.Mathlib.Omega.{arith}
-use Rattle.cable.proofs.Words.{code_refused, code_refusal_none}
-use Rattle.bits.proofs.Clauses.{answer_output}
+use Rattle.std.proofs.Common.{rules}
+use Rattle.refusal.proofs.Answers.{result_of_ok}
+use Rattle.cable.specs.Words.{unscramble_word, unscramble_words, unscramble_next}
+use Rattle.cable.proofs.Coding.{filled_stepwise}
+use Rattle.cable.proofs.Words.{unscrambling, code_refusal_none}
 use Rattle.cable.proofs.unscramble.Goals as goal
 
-pub returns-then-refusal-ne0 : goal.returns-then-refusal-ne0
-returns-then-refusal-ne0 c = answer_output (code_refused _ _ _ c.if-refusal-ne0.true c.code_refusal-refusal.ensures)
-
-pub unscramble_all-next-requires : goal.unscramble_all-next-requires
-unscramble_all-next-requires c =
-    let none = code_refusal_none _ _ _ (sym c.code_refusal-refusal.ensures ∙ c.if-refusal-ne0.false) in
-    (omega arith, none.1, omega arith)
+pub code-requires-clause-room : goal.code-requires-clause-room
+code-requires-clause-room c =
+    let tests = code_refusal_none _ _ _ (result_of_ok tt _ (sym c.in_ok-code_refusal.ensures)).0 in
+    omega arith
 
 pub returns : goal.returns
+unfolding unscramble_word unscramble_words unscramble_next
 returns c =
-    let none = sym c.code_refusal-refusal.ensures ∙ c.if-refusal-ne0.false in
-    let done = c.unscramble_all-next.ensures in
+    let none = (result_of_ok tt _ (sym c.in_ok-code_refusal.ensures)).0 in
+    let tests = code_refusal_none _ _ _ none in
+    let done = filled_stepwise unscrambling c.code.ensures (λ h w r p. search rules) (omega arith) tests.1 in
     record { answer = rw (none, done.0); output = done.1 ∙ rw none }

@@ -1,68 +1,49 @@
-use mathlib.Core.Path.{◌≡◌, refl, sym, ◌∙◌}
-use mathlib.Core.List.{flat_map}
+use mathlib.Core.Path.{◌≡◌, refl, sym, ap, ◌∙◌}
+use mathlib.Core.List.{List, [], flat_map}
+use Prim.Native.Nat.{ℕ, ◌+◌}
 use native.Mathlib.Omega.{arith}
 use native.Mathlib.Nat.{add-zero}
+use lib.ListN.{length, drop, length-append}
 use Rattle.parts.specs.Parts.{laid}
-use Rattle.scan.specs.declared.Here.{Here}
-use Rattle.scan.specs.Scan.{packets_of}
-use Rattle.scan.proofs.Pieces.{Turn, scan-turn, scan_end}
-use Rattle.finding.proofs.Extracting.{length_packets_whole, laid_packets_whole}
+use Rattle.parts.proofs.Laid.{laid_of_append}
+use Rattle.scan.specs.Scan.{packets_of, scan}
+use Rattle.finding.proofs.Walk.{NextWhole, next_whole, none_whole}
 use Rattle.finding.proofs.copy_region.Goals as goal
-use Rattle.finding.proofs.copy_region.Goals.{After-here_at-here}
+use Rattle.finding.proofs.copy_region.Goals.{After-part-packet, In_default}
 
--- what stands at the place of a turn, by the answer of here_at
-turn : (c : After-here_at-here) {here : Here} → c.here_at-here.result ≡ here
-    → Turn c.args.region.now c.scan.i here
-turn c {here} e = scan-turn _ _ here c.scan-test.true (sym c.here_at-here.ensures ∙ e)
-
-pub scan-init : goal.scan-init
-scan-init c = (refl, refl, refl)
-
-pub scan-preserved-in-Nothing : goal.scan-preserved-in-Nothing
+next : (c : After-part-packet) → NextWhole packets_of c.args.region.now c.loop-place.next c.in-Some.place.end c.part-packet.result.now
 unfolding packets_of flat_map
-scan-preserved-in-Nothing c =
-    let inv = c.scan.invariant in
-    let here = turn (goal.at.scan-preserved-in-Nothing c).After-here_at-here c.in-Nothing.is in
-    (inv.0, inv.1 ∙ rw here.next, inv.2 ∙ rw here.next)
+next c = next_whole packets_of (λ w ps. refl) (λ ps. refl) _ _ c.in-Some.ensures.found c.len.ensures.value c.part-packet.ensures
 
-pub overflow_add-i-in-Cut : goal.overflow_add-i-in-Cut
-overflow_add-i-in-Cut c = omega (arith, turn (goal.at.overflow_add-i-in-Cut c).After-here_at-here c.in-Cut.is)
-
-pub scan-preserved-in-Cut : goal.scan-preserved-in-Cut
+longer : (c : After-part-packet)
+    → length (packets_of (scan (drop c.loop-place.next c.args.region.now)))
+    ≡ length c.part-packet.result.now + length (packets_of (scan (drop c.in-Some.place.end c.args.region.now)))
 unfolding packets_of flat_map
-scan-preserved-in-Cut c =
-    let inv = c.scan.invariant in
-    let here = turn (goal.at.scan-preserved-in-Cut c).After-here_at-here c.in-Cut.is in
-    (inv.0, inv.1 ∙ rw here.next, inv.2 ∙ rw here.next)
+longer c = ap length (next c).same ∙ length-append _ _
 
-pub overflow_add-at : goal.overflow_add-at
-overflow_add-at c =
-    let here = turn (goal.at.overflow_add-at c).After-here_at-here c.in-Whole.is in
-    omega (arith, length_packets_whole _ _ _ here, c.scan.invariant.1, c.requires)
+none : (c : In_default) → packets_of (scan (drop c.loop-place.next c.args.region.now)) ≡ packets_of []
+unfolding packets_of flat_map
+none c = none_whole packets_of (λ w ps. refl) (λ ps. refl) _ _ c.in_default.ensures.found
 
-pub overflow_add-i-in-Whole : goal.overflow_add-i-in-Whole
-overflow_add-i-in-Whole c =
-    omega (arith, turn (goal.at.overflow_add-i-in-Whole c).After-here_at-here c.in-Whole.is)
+pub loop-place-smaller : goal.loop-place-smaller
+loop-place-smaller c = omega (arith, next (goal.at.loop-place-smaller c).After-part-packet)
 
-pub scan-smaller : goal.scan-smaller
-scan-smaller c =
-    omega (arith, turn (goal.at.scan-smaller c).After-here_at-here c.in-Whole.is)
-
-pub scan-preserved : goal.scan-preserved
-scan-preserved c =
-    let inv = c.scan.invariant in
-    let here = turn (goal.at.scan-preserved c).After-here_at-here c.in-Whole.is in (
+pub loop-place-preserved : goal.loop-place-preserved
+unfolding packets_of flat_map
+loop-place-preserved c =
+    let inv = c.loop-place.invariant in
+    let here = (goal.at.loop-place-preserved c).After-part-packet in (
       c.lay.auto.buffer ∙ inv.0,
-      omega (arith, length_packets_whole _ _ _ here, inv.1),
-      inv.2 ∙ laid_packets_whole _ _ _ here _ _ ∙ rw (c.lay.ensures, c.part.ensures),
+      omega (arith, longer here, inv.1),
+      inv.2
+          ∙ ap (λ (ws : List ℕ). laid c.loop-place.at ws c.loop-place.out) (next here).same
+          ∙ laid_of_append c.loop-place.at c.part-packet.result.now _ c.loop-place.out
+          ∙ rw c.lay.ensures,
     )
-
-pub shape_of-out : goal.shape_of-out
-shape_of-out c = c.scan.invariant.0
 
 pub returns : goal.returns
 unfolding packets_of flat_map laid
 returns c =
-    let inv = c.scan.invariant in
-    let end = scan_end c.scan.i c.args.region.now c.scan-test.false in
+    let inv = c.loop-place.invariant in
+    let end = none (goal.at.returns c).In_default in
     record { answer = sym (inv.1 ∙ rw (end, add-zero)); buffer = sym (inv.2 ∙ rw end) }

@@ -5,10 +5,10 @@ use Rattle.parts.specs.Parts.{laid}
 use Rattle.scan.specs.Scan.{packets_of, scan}
 use Rattle.finding.proofs.copy_region.Given as goal
 
-abbrev pub invariant-scan : goal.invariant-scan
-invariant-scan l = (length l.out ≡ length l.initial.out)
-    × (l.from + length (packets_of (scan l.region)) ≡ l.at + length (packets_of (scan (drop l.i l.region))))
-    × (laid l.from (packets_of (scan l.region)) l.initial.out ≡ laid l.at (packets_of (scan (drop l.i l.region))) l.out)
+abbrev pub invariant-loop-place : goal.invariant-loop-place
+invariant-loop-place l = (length l.out ≡ length l.initial.out)
+    × (l.from + length (packets_of (scan l.region)) ≡ l.at + length (packets_of (scan (drop l.next l.region))))
+    × (laid l.from (packets_of (scan l.region)) l.initial.out ≡ laid l.at (packets_of (scan (drop l.next l.region))) l.out)
 
-abbrev pub decreases-scan : goal.decreases-scan
-decreases-scan l = length l.region - l.i
+abbrev pub decreases-loop-place : goal.decreases-loop-place
+decreases-loop-place l = length l.region - l.next

@@ -1,22 +1,28 @@
-use mathlib.Core.Path.{◌≡◌, sym, ◌∙◌}
-use Rattle.plan.specs.Refusal.{row_refusal}
+use mathlib.Core.Path.{sym}
+use Rattle.std.proofs.lemmas.Result.{err_from_is_err_and}
+use Rattle.refusal.proofs.Answers.{result_of_ok, result_of_bad, result_of_err}
+use Rattle.parts.proofs.Laid.{unless_refused-refused}
 use Rattle.finding.specs.Extract.{packets_in, extract_refusal, extracted}
-use Rattle.finding.proofs.Extracting.{extracted-refused, laid-refused}
+use Rattle.finding.proofs.Extracting.{refused_first}
 use Rattle.finding.proofs.extract.Goals as goal
 
-pub returns-then-refusal-ne0 : goal.returns-then-refusal-ne0
-returns-then-refusal-ne0 c =
-    let a = c.args in
-    let bad : row_refusal a.raster a.line a.y.now a.c.now ≡ 0 → ⊥ = λ e. c.if-refusal-ne0.true (c.row_refusal-refusal.ensures ∙ e) in record { answer = rw c.row_refusal-refusal.ensures (sym (extracted-refused a.raster a.line a.channel a.y.now a.c.now _ bad)); buffer = sym (laid-refused a.raster a.line a.channel a.y.now a.c.now _ bad _ _) }
+pub returns-in_err-plan : goal.returns-in_err-plan
+unfolding extracted
+returns-in_err-plan c =
+    let at = c.args in
+    let bad = result_of_err _ _ (sym c.in_err-plan.ensures) in
+    let p = err_from_is_err_and c.from_residual.result c.from_residual.ensures.1 in
+    record {
+      answer = rw (p.1, p.2, bad.1, refused_first at.raster at.line at.channel at.y.now at.c.now _ bad.0, result_of_bad _ _ bad.0);
+      buffer = rw (refused_first at.raster at.line at.channel at.y.now at.c.now _ bad.0) (sym (unless_refused-refused _ _ _ bad.0));
+    }
 
-pub returns-in-Y : goal.returns-in-Y
+pub returns : goal.returns
 unfolding packets_in extract_refusal extracted
-returns-in-Y c =
+returns c =
     let made = c.extract_channel.ensures in
-    let ok = sym c.row_refusal-refusal.ensures ∙ c.if-refusal-ne0.false in record { answer = rw (ok, c.in-Y.is, ← c.plan_of-plan.ensures) made.answer; buffer = rw (ok, c.in-Y.is, ← c.plan_of-plan.ensures) made.buffer }
-
-pub returns-in-C : goal.returns-in-C
-unfolding packets_in extract_refusal extracted
-returns-in-C c =
-    let made = c.extract_channel-in-C.ensures in
-    let ok = sym c.row_refusal-refusal.ensures ∙ c.if-refusal-ne0.false in record { answer = rw (ok, c.in-C.is, ← c.plan_of-plan.ensures) made.answer; buffer = rw (ok, c.in-C.is, ← c.plan_of-plan.ensures) made.buffer }
+    let ok = result_of_ok _ _ (sym c.in_ok-plan.ensures) in
+    record {
+      answer = rw (ok.0, ← ok.1, ← c.words.ensures) made.answer;
+      buffer = rw (ok.0, ← ok.1, ← c.words.ensures) made.buffer;
+    }

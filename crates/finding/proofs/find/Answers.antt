@@ -1,32 +1,23 @@
-use mathlib.Core.Path.{sym, ◌∙◌}
-use lib.Seq.{take_all}
-use Rattle.finding.proofs.Finding.{or_else_first, or_else_second, find_of-refused, find_of-found}
+use mathlib.Core.Path.{refl, sym, ap, ◌∙◌}
+use borrow.Author.Rules.{rules}
+use Rattle.refusal.proofs.Answers.{result_of_ok, result_of_err}
+use Rattle.plan.specs.Plan.{plan_of}
+use Rattle.region.specs.Ancillary.{ancillary}
+use Rattle.finding.specs.Find.{found, IsFound, find_of}
+use Rattle.finding.proofs.Finding.{found_or_else, found_or_none, find_of-refused, find_of-found}
 use Rattle.finding.proofs.find.Goals as goal
 
-pub returns-then-row_refusal-ne0 : goal.returns-then-row_refusal-ne0
-returns-then-row_refusal-ne0 c =
-    let a = c.args in
-    sym (find_of-refused a.did a.sdid a.raster a.line a.y.now a.c.now (λ e. c.if-row_refusal-ne0.true (c.row_refusal.ensures ∙ e)))
-
-pub returns-then-in_y-gt0 : goal.returns-then-in_y-gt0
-returns-then-in_y-gt0 c =
-    let a = c.args in
-    let ok = sym c.row_refusal.ensures ∙ c.if-row_refusal-ne0.false in
-    let in-y = rw c.plan_of-plan.ensures at c.find_channel-in_y.ensures in
-    or_else_first _ _ _ in-y c.if-in_y-gt0.true ∙ sym (find_of-found a.did a.sdid a.raster a.line a.y.now a.c.now ok)
-
-pub returns-then-in_c-gt0 : goal.returns-then-in_c-gt0
-returns-then-in_c-gt0 c =
-    let a = c.args in
-    let ok = sym c.row_refusal.ensures ∙ c.if-row_refusal-ne0.false in
-    let in-y = rw c.plan_of-plan.ensures at c.find_channel-in_y.ensures in
-    let in_c = rw c.plan_of-plan.ensures at c.find_channel-in_c.ensures in
-    in_c ∙ or_else_second _ _ _ in-y c.if-in_y-gt0.false ∙ sym (find_of-found a.did a.sdid a.raster a.line a.y.now a.c.now ok)
+pub returns-in_default : goal.returns-in_default
+returns-in_default c =
+    let at = c.args in
+    sym (find_of-refused at.did at.sdid at.raster at.line at.y.now at.c.now (result_of_err _ _ (sym c.in_default.ensures)).0)
 
 pub returns : goal.returns
 returns c =
-    let a = c.args in
-    let ok = sym c.row_refusal.ensures ∙ c.if-row_refusal-ne0.false in
-    let in-y = rw c.plan_of-plan.ensures at c.find_channel-in_y.ensures in
-    let in_c = rw c.plan_of-plan.ensures at c.find_channel-in_c.ensures in
-    take_all 0 _ c.if-in_c-gt0.false ∙ in_c ∙ or_else_second _ _ _ in-y c.if-in_y-gt0.false ∙ sym (find_of-found a.did a.sdid a.raster a.line a.y.now a.c.now ok)
+    let at = c.args in
+    let ok = result_of_ok _ _ (sym c.in-Ok.ensures) in
+    let plan = plan_of at.raster at.line in
+    let in_y : IsFound c.find_channel.result (found at.did at.sdid (ancillary plan at.y.now)) = rw ok.1 at c.find_channel.ensures in
+    let there : IsFound c.or_else.result (find_of at.raster at.line at.did at.sdid at.y.now at.c.now) =
+    rw (find_of-found at.did at.sdid at.raster at.line at.y.now at.c.now ok.0) (found_or_else _ _ _ _ in_y c.or_else.ensures (λ q. search rules)) in
+    ap (λ p. p.now) c.unwrap_or.ensures ∙ found_or_none c.or_else.result _ _ refl there

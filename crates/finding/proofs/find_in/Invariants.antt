@@ -5,8 +5,8 @@ use Rattle.scan.specs.Scan.{scan}
 use Rattle.finding.specs.Find.{found}
 use Rattle.finding.proofs.find_in.Given as goal
 
-abbrev pub invariant-scan : goal.invariant-scan
-invariant-scan l = found l.did l.sdid (scan l.region) ≡ found l.did l.sdid (scan (drop l.i l.region))
+abbrev pub invariant-loop-place : goal.invariant-loop-place
+invariant-loop-place l = found l.did l.sdid (scan l.region) ≡ found l.did l.sdid (scan (drop l.next l.region))
 
-abbrev pub decreases-scan : goal.decreases-scan
-decreases-scan l = length l.region - l.i
+abbrev pub decreases-loop-place : goal.decreases-loop-place
+decreases-loop-place l = length l.region - l.next

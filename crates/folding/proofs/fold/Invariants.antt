@@ -1,13 +1,11 @@
-use mathlib.Core.Path.{◌≡◌}
-use Prim.Native.Nat.{◌-◌, ◌≤◌}
-use lib.ListN.{length, take, drop}
+use Rattle.std.proofs.Common.{◌≡◌, ◌++◌, length, take}
+use Rattle.std.specs.Slice.Iter.{chunks_rest, chunks_size}
 use Rattle.crc.specs.Crc.{crc_words}
-use Rattle.folding.proofs.Folding.{loaded}
+use Rattle.folding.specs.Folding.{loaded}
 use Rattle.folding.proofs.fold.Given as goal
 
 -- `fold`: what is left, with the words that were taken out xor-ed in, brings the register where all the words do.
-abbrev pub invariant-loop-at : goal.invariant-loop-at
-invariant-loop-at l = (l.at ≤ l.end) × (length l.s ≡ 816) × (crc_words 0 (loaded (take 304 l.s) (drop l.at l.words)) ≡ crc_words 0 l.words)
-
-abbrev pub decreases-loop-at : goal.decreases-loop-at
-decreases-loop-at l = l.end - l.at
+abbrev pub invariant-loop-block : goal.invariant-loop-block
+invariant-loop-block l =
+    (chunks_size l.block-iterator ≡ 512) × (length l.s ≡ 816)
+    × (crc_words 0 (loaded (take 304 l.s) (chunks_rest l.block-iterator ++ l.back)) ≡ crc_words 0 l.fn.words)

@@ -1,42 +1,40 @@
 -- `step_tails`: the sheet's rule holds of the code's own table, and what the words left do to each register stays the same.
-use mathlib.Core.Path.{refl, sym, ap, ap₂, ◌∙◌}
-use Prim.Native.Nat.{ℕ, ◌+◌}
-use native.Mathlib.Omega.{arith}
-use lib.ListN.{drop, get_or}
+use Rattle.std.proofs.Common.{◌≡◌, length, arith, rules, refl, sym, ap, ap₂, ◌∙◌}
+use Rattle.std.specs.Iterator.Adapters.{zip_first, zip_second}
+use Rattle.std.specs.Slice.Iter.{iter_rest}
+use Rattle.std.proofs.lemmas.List.{nil_from_length}
+use Rattle.std.proofs.lemmas.Slice.Zip.{Zip-more}
 use Rattle.bits.specs.Bits.{odd, bits}
 use Rattle.crc.specs.Crc.{crc_bit, crc_bits, crc_word, crc_words}
-use Rattle.crc.proofs.Steps.{crc_words_step, crc_words_end}
 use Rattle.crc.proofs.Entries.{rule_of_test, step_by_sheet}
 use Rattle.folding.specs.declared.Registers.{Registers}
 use Rattle.folding.proofs.step_tails.Goals as goal
 
-pub loop-i-init : goal.loop-i-init
+pub loop-wy-init : goal.loop-wy-init
 unfolding crc_word crc_bits crc_bit bits odd
-loop-i-init c = (omega arith, rule_of_test _ refl tt, refl, refl)
+loop-wy-init c =
+    let y : iter_rest (zip_first c.into_iter-wy-iterator.result) ≡ c.args.y.now = search rules in
+    let c' : iter_rest (zip_second c.into_iter-wy-iterator.result) ≡ c.args.c.now = search rules in
+    (rule_of_test _ refl tt, ap length y ∙ c.requires ∙ sym (ap length c'), ap (crc_words 0) y, ap (crc_words 0) c')
 
-pub overflow_cast-iy : goal.overflow_cast-iy
-overflow_cast-iy c = omega (arith, c.shared_slice_known-1.given c.loop-i.i)
-
-pub overflow_cast-ic : goal.overflow_cast-ic
-overflow_cast-ic c = omega (arith, c.shared_slice_known-in-loop-i-1.given c.loop-i.i)
-
-pub loop-i-preserved : goal.loop-i-preserved
-loop-i-preserved c =
-    let at = c.loop-i in
-    let y = c.args.y.now in
-    let c' = c.args.c.now in (
-      omega arith,
-      at.invariant.1,
-      ap (λ (r : ℕ). crc_words r (drop (at.i + 1) y)) (step_by_sheet _ at.ry (get_or y at.i 0) at.invariant.1)
-          ∙ sym (crc_words_step at.ry at.i y (omega arith)) ∙ at.invariant.2,
-      ap (λ (r : ℕ). crc_words r (drop (at.i + 1) c')) (step_by_sheet _ at.rc (get_or c' at.i 0) at.invariant.1)
-          ∙ sym (crc_words_step at.rc at.i c' (omega arith)) ∙ at.invariant.3,
+pub loop-wy-preserved : goal.loop-wy-preserved
+unfolding crc_words
+loop-wy-preserved c =
+    let at = c.loop-wy in
+    let next = Zip-more at.wy-iterator c.next.new.self _ _ c.in-Some.is c.next.ensures.steps in (
+      at.invariant.0,
+      omega (arith, ap length next.0, ap length next.1),
+      ap (λ r. crc_words r (iter_rest (zip_first c.next.new.self))) (step_by_sheet _ at.ry c.in-Some.wy.now at.invariant.0)
+          ∙ ap (crc_words at.ry) (sym next.0) ∙ at.invariant.2,
+      ap (λ r. crc_words r (iter_rest (zip_second c.next.new.self))) (step_by_sheet _ at.rc c.in-Some.wc.now at.invariant.0)
+          ∙ ap (crc_words at.rc) (sym next.1) ∙ at.invariant.3,
     )
 
 pub returns : goal.returns
+unfolding crc_words
 returns c =
-    let at = c.loop-i in
-    let start = c.args in
-    ap₂ {C = Registers} (λ (y c : ℕ). record { y = y; c = c })
-    (sym (crc_words_end at.ry at.i start.y.now (omega arith)) ∙ at.invariant.2)
-    (sym (crc_words_end at.rc at.i start.c.now (omega arith)) ∙ at.invariant.3)
+    let at = c.loop-wy in
+    let none : length (iter_rest (zip_first at.wy-iterator)) ≡ 0 = search rules in
+    let y = nil_from_length (iter_rest (zip_first at.wy-iterator)) none in
+    let c' = nil_from_length (iter_rest (zip_second at.wy-iterator)) (omega arith) in
+    ap₂ {C = Registers} (λ y c. record { y = y; c = c }) (ap (crc_words at.ry) (sym y) ∙ at.invariant.2) (ap (crc_words at.rc) (sym c') ∙ at.invariant.3)

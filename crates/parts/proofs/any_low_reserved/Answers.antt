@@ -1,20 +1,19 @@
-use mathlib.Core.Path.{refl, sym, ◌∙◌}
-use native.Mathlib.Omega.{arith}
+use mathlib.Core.Path.{◌∙◌}
+use mathlib.Core.Bool.{Bool, false, ◌||◌}
+use Prim.Native.Nat.{ℕ, ◌%◌}
+use borrow.Author.Rules.{rules}
+use Rattle.std.proofs.lemmas.Iterator.{YieldsList-from_slice}
+use Rattle.std.proofs.lemmas.Iterator.Consumers.{fold_from_yields_List}
+use Rattle.bits.specs.Words.{reserved_code}
 use Rattle.bits.proofs.Words.{reserved_low}
-use Rattle.parts.proofs.Comparing.{any-found_step, any-found_end}
-use Rattle.parts.proofs.any_low_reserved.Invariants.{low}
+use Rattle.parts.proofs.Comparing.{any_fold}
 use Rattle.parts.proofs.any_low_reserved.Goals as goal
 
-pub loop-i-init : goal.loop-i-init
-loop-i-init c = (omega arith, refl)
-
-pub loop-i-preserved : goal.loop-i-preserved
-loop-i-preserved c =
-    let at = c.loop-i in
-    let words = c.args.words.now in
-    (omega arith, rw (← reserved_low) at (any-found_step low 0 at.found at.i words (omega arith)) ∙ at.invariant.1)
+low : ℕ → Bool
+low w = reserved_code (w % 1024)
 
 pub returns : goal.returns
+unfolding low
 returns c =
-    let at = c.loop-i in
-    sym (any-found_end low at.found at.i _ (omega arith)) ∙ at.invariant.1
+    fold_from_yields_List _ (λ found w. found || low w) false _ c.fold.ensures.ran (YieldsList-from_slice c.args.words.now cc) (λ a x b q k. rw (← reserved_low) (search rules))
+    ∙ any_fold low false c.args.words.now

@@ -1,27 +1,18 @@
-use mathlib.Core.Path.{refl, sym, ◌∙◌}
-use native.Mathlib.Omega.{arith}
+use mathlib.Core.Path.{sym, ◌∙◌}
+use borrow.Author.Rules.{rules}
+use Rattle.std.proofs.lemmas.Iterator.{YieldsList-from_slice}
+use Rattle.std.proofs.lemmas.Iterator.Search.{any_from_yields_List}
 use Rattle.bits.specs.Words.{reserved_code}
 use Rattle.bits.proofs.Words.{reserved_of_low}
-use Rattle.parts.proofs.Comparing.{any_step, any_stop, any_end, any_weaken}
+use Rattle.parts.proofs.Comparing.{any_weaken, list_any-any}
 use Rattle.parts.proofs.any_reserved.Goals as goal
 
-pub returns-then-not-any_low_reserved : goal.returns-then-not-any_low_reserved
-returns-then-not-any_low_reserved c = sym (any_weaken _ reserved_code reserved_of_low _ (sym c.any_low_reserved.ensures ∙ c.if-not-any_low_reserved.true))
+pub returns-then-any_low_reserved : goal.returns-then-any_low_reserved
+returns-then-any_low_reserved c =
+    any_from_yields_List reserved_code _ _ _ c.any.ensures.ran (YieldsList-from_slice c.args.words.now cc) (λ x b q k. search rules)
+    ∙ list_any-any reserved_code c.args.words.now
 
-pub loop-i-init : goal.loop-i-init
-loop-i-init c = (omega arith, refl)
-
-pub returns-then-reserved : goal.returns-then-reserved
-returns-then-reserved c =
-    let at = c.loop-i in
-    sym (any_stop reserved_code 0 at.i _ (omega arith) (sym c.reserved.ensures ∙ c.if-reserved.true)) ∙ at.invariant.1
-
-pub loop-i-preserved : goal.loop-i-preserved
-loop-i-preserved c =
-    let at = c.loop-i in
-    (omega arith, sym (any_step reserved_code 0 at.i _ (omega arith) (sym c.reserved.ensures ∙ c.if-reserved.false)) ∙ at.invariant.1)
-
-pub returns : goal.returns
-returns c =
-    let at = c.loop-i in
-    sym (any_end reserved_code at.i _ (omega arith)) ∙ at.invariant.1
+pub returns-else-any_low_reserved : goal.returns-else-any_low_reserved
+returns-else-any_low_reserved c =
+    let none = c.if-any_low_reserved.false in
+    none ∙ sym (any_weaken _ reserved_code reserved_of_low _ (sym c.any_low_reserved.ensures ∙ none))

@@ -1,30 +1,13 @@
-use mathlib.Core.Path.{refl, sym, ◌∙◌}
-use Prim.Native.Nat.{◌+◌}
-use native.Mathlib.Omega.{arith}
-use lib.ListN.{drop, length-set}
-use Rattle.parts.proofs.Laid.{laid_step, laid_end, laid-past, laid_start}
+use mathlib.Core.Path.{sym, ◌∙◌}
+use lib.ListN.{length}
+use Rattle.parts.proofs.Inside.{part_between, put_in_part}
+use Rattle.parts.proofs.Laid.{laid_over}
 use Rattle.parts.proofs.lay.Goals as goal
-
-pub returns-then-buffer-at : goal.returns-then-buffer-at
-returns-then-buffer-at c = sym (laid-past _ _ _ c.if-buffer-at.true)
-
-pub loop-i-init : goal.loop-i-init
-loop-i-init c = (omega arith, omega arith, refl, laid_start _ _ _)
-
-pub returns-then-i-room : goal.returns-then-i-room
-returns-then-i-room c =
-    let at = c.loop-i in
-    let a = c.args in
-    sym (laid-past (a.at + at.i) (drop at.i a.words.now) at.buffer (omega arith)) ∙ at.invariant.3
-
-pub loop-i-preserved : goal.loop-i-preserved
-loop-i-preserved c =
-    let at = c.loop-i in
-    let a = c.args in
-    (omega arith, omega arith, simp length-set at.invariant.2, sym (laid_step a.at at.i a.words.now at.buffer (omega arith)) ∙ at.invariant.3)
 
 pub returns : goal.returns
 returns c =
-    let at = c.loop-i in
     let a = c.args in
-    sym (laid_end (a.at + at.i) at.i a.words.now at.buffer (omega arith)) ∙ at.invariant.3
+    let r = c.range-here.ensures in
+    let count = length a.words.now in
+    put_in_part a.at count a.buffer.now r.start r.end c.copy_from_slice.new.self
+    ∙ rw (c.copy_from_slice.ensures.after, c.part.ensures, part_between a.at count a.buffer.now r.start r.end) (sym (laid_over a.at a.words.now a.buffer.now))

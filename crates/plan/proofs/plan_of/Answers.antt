@@ -1,57 +1,67 @@
-use mathlib.Core.Path.{ap, ◌∙◌}
+use mathlib.Core.Path.{◌≡◌, sym, ◌∙◌}
 use native.Mathlib.Omega.{arith}
-use Rattle.raster.specs.declared.LineFacts.{LineFacts}
-use Rattle.raster.proofs.Table.{InRange, looked_up_range}
-use Rattle.raster.proofs.Lines.{line_facts_refusal, line_refusal_ok}
-use Rattle.timing.proofs.Line.{line_words_made}
-use Rattle.plan.proofs.Plans.{plan_of-found, plan_of-refused, Found, facts_found}
+use Rattle.std.proofs.lemmas.Result.{err_from_is_err_and}
+use Rattle.raster.specs.Lines.{line_refusal}
+use Rattle.raster.proofs.Table.{InRange, looked_up_ok, looked_up_err, looked_up_range, raster_given-found}
+use Rattle.raster.proofs.Lines.{line_facts_ok, line_facts_err, line_refusal_ok}
+use Rattle.timing.proofs.Line.{line_words_ok, line_words_err}
+use Rattle.plan.proofs.Plans.{planned_found, planned_refused}
 use Rattle.plan.proofs.plan_of.Goals as goal
-use Rattle.plan.proofs.plan_of.Goals.{After-raster_of-looked, Else-facts-ne0}
+use Rattle.plan.proofs.plan_of.Goals.{In_ok-facts, In_ok-layout}
+use Rattle.bits.proofs.Choice.{false_not_true}
 
--- past the first test there is a plan
-found : (c : Else-facts-ne0) → Found c.args.raster c.args.line c.line_facts-facts.result
-found c =
-    let at = c.args in
-    facts_found at.raster at.line _ c.line_facts-facts.ensures c.if-facts-ne0.false
+-- past the first `?` raster and line are right
+ok : (c : In_ok-facts) → line_refusal c.args.raster c.args.line ≡ 0
+ok c = (line_facts_ok c.args.raster c.args.line (sym c.in_ok-facts.ensures)).0
 
--- and the raster that was looked up is in range
-range : (c : After-raster_of-looked) → InRange c.raster_of-looked.result.raster
+-- and what was looked up is in range
+range : (c : In_ok-layout) → InRange c.in_ok-layout.field-0
 range c =
-    let at = c.args in
-    rw c.raster_of-looked.ensures (looked_up_range at.raster (line_refusal_ok at.raster at.line (facts_found at.raster at.line _ c.line_facts-facts.ensures c.if-facts-ne0.false).ok).0)
+    let found = looked_up_ok c.args.raster (sym c.in_ok-layout.ensures) in
+    rw found.1 (looked_up_range c.args.raster found.0)
 
-pub returns-then-facts-ne0 : goal.returns-then-facts-ne0
-returns-then-facts-ne0 c =
+pub returns-in_err-facts : goal.returns-in_err-facts
+returns-in_err-facts c =
     let at = c.args in
-    let e = ap (λ (r : LineFacts). r.refusal) c.line_facts-facts.ensures ∙ line_facts_refusal at.raster at.line in
-    rw (c.none.ensures, e, plan_of-refused at.raster at.line (λ z. c.if-facts-ne0.true (e ∙ z)))
+    let bad = line_facts_err at.raster at.line (sym c.in_err-facts.ensures) in
+    let p = err_from_is_err_and c.from_residual.result c.from_residual.ensures.1 in
+    rw (p.1, p.2, bad.1, planned_refused at.raster at.line bad.0)
+
+pub returns-in_err-words : goal.returns-in_err-words
+returns-in_err-words c =
+    absurd (line_words_err c.args.raster c.args.line (sym c.in_err-words.ensures) (ok (goal.at.returns-in_err-words c).In_ok-facts))
+
+pub returns-in_err-layout : goal.returns-in_err-layout
+returns-in_err-layout c =
+    let right = line_refusal_ok c.args.raster c.args.line (ok (goal.at.returns-in_err-layout c).In_ok-facts) in
+    absurd (false_not_true (sym (looked_up_err c.args.raster (sym c.in_err-layout.ensures)).0 ∙ right.0))
 
 pub overflow_add-crc : goal.overflow_add-crc
-overflow_add-crc c = omega (arith, range (goal.at.overflow_add-crc c).After-raster_of-looked)
+overflow_add-crc c = omega (arith, range (goal.at.overflow_add-crc c).In_ok-layout)
 
 pub overflow_add-blank : goal.overflow_add-blank
-overflow_add-blank c = omega (arith, range (goal.at.overflow_add-blank c).After-raster_of-looked)
+overflow_add-blank c = omega (arith, range (goal.at.overflow_add-blank c).In_ok-layout)
 
 pub overflow_sub-active : goal.overflow_sub-active
-overflow_sub-active c = omega (arith, range (goal.at.overflow_sub-active c).After-raster_of-looked)
+overflow_sub-active c = omega (arith, range (goal.at.overflow_sub-active c).In_ok-layout)
 
 pub overflow_sub-sav : goal.overflow_sub-sav
-overflow_sub-sav c = omega (arith, range (goal.at.overflow_sub-sav c).After-raster_of-looked)
+overflow_sub-sav c = omega (arith, range (goal.at.overflow_sub-sav c).In_ok-layout)
 
 pub overflow_sub-places : goal.overflow_sub-places
-overflow_sub-places c = omega (arith, range (goal.at.overflow_sub-places c).After-raster_of-looked)
+overflow_sub-places c = omega (arith, range (goal.at.overflow_sub-places c).In_ok-layout)
 
 pub returns : goal.returns
 returns c =
     let at = c.args in
-    let known = found (goal.at.returns c).Else-facts-ne0 in
+    let facts = line_facts_ok at.raster at.line (sym c.in_ok-facts.ensures) in
+    let given = looked_up_ok at.raster (sym c.in_ok-layout.ensures) in
     rw (
-      plan_of-found at.raster at.line known.ok,
+      planned_found at.raster at.line facts.0,
       c.xyz.ensures,
       c.xyz-2.ensures,
-      known.v,
-      known.f,
-      c.line_words-words.ensures,
-      line_words_made at.raster at.line known.ok,
-      c.raster_of-looked.ensures,
+      facts.1,
+      (line_words_ok at.raster at.line (sym c.in_ok-words.ensures)).1,
+      given.1,
+      raster_given-found at.raster given.0,
     )

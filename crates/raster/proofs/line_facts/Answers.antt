@@ -1,30 +1,39 @@
-use mathlib.Core.Path.{sym, ap, ◌∙◌}
-use Rattle.raster.proofs.Table.{looked_up-found, refusal_ok, refusal_bad}
-use Rattle.raster.proofs.Lines.{between_yes, between_low, between_high, line_facts_bad, line_facts_off, line_facts-found}
+use mathlib.Core.Path.{◌≡◌, sym, ap, ◌∙◌}
+use mathlib.Core.Bool.{true}
+use Rattle.std.proofs.lemmas.Result.{err_from_is_err_and}
+use Rattle.raster.proofs.Table.{raster_given-found, looked_up_ok, looked_up_err}
+use Rattle.raster.proofs.Lines.{line_facts_found, line_facts_bad, line_facts_off}
+use Rattle.raster.specs.Lines.{between, line_ok}
+use Rattle.raster.specs.Table.{raster_ok}
 use Rattle.raster.proofs.line_facts.Goals as goal
+use Rattle.raster.proofs.line_facts.Goals.{After-inside}
 
-pub returns-then-looked-ne0 : goal.returns-then-looked-ne0
-returns-then-looked-ne0 c =
-    let looked = c.raster_of-looked.ensures in
-    sym (line_facts_bad _ _ (refusal_bad _ (λ e. c.if-looked-ne0.true (ap (λ l. l.refusal) looked ∙ e))))
+-- past the `?` the raster is one of 0..11, and the test is that of the line
+test : (c : After-inside) → (raster_ok c.args.raster ≡ true) × (c.inside.result ≡ line_ok c.args.raster c.args.line)
+test c =
+    let found = looked_up_ok _ (sym c.in_ok-found.ensures) in
+    let rows = ap (λ r. between 1 r.rows c.args.line) (found.1 ∙ raster_given-found _ found.0) in
+    (found.0, c.inside.ensures ∙ rows)
 
-pub returns-then-line-lt1 : goal.returns-then-line-lt1
-returns-then-line-lt1 c =
-    let looked = c.raster_of-looked.ensures in
-    let ok = refusal_ok _ (ap (λ l. l.refusal) (sym looked) ∙ c.if-looked-ne0.false) in
-    sym (line_facts_off _ _ ok (between_low _ _ _ c.if-line-lt1.true))
+pub returns-in_err-found : goal.returns-in_err-found
+returns-in_err-found c =
+    let bad = looked_up_err c.args.raster (sym c.in_err-found.ensures) in
+    let p = err_from_is_err_and c.from_residual.result c.from_residual.ensures.1 in
+    rw (p.1, p.2, bad.1, line_facts_bad c.args.raster c.args.line bad.0)
 
-pub returns-then-found-line : goal.returns-then-found-line
-returns-then-found-line c =
-    let looked = c.raster_of-looked.ensures in
-    let ok = refusal_ok _ (ap (λ l. l.refusal) (sym looked) ∙ c.if-looked-ne0.false) in
-    let found = ap (λ l. l.raster) (looked ∙ looked_up-found _ ok) in
-    sym (line_facts_off _ _ ok (between_high _ _ _ (rw (ap (λ r. r.rows) found) at c.if-found-line.true)))
+pub returns-then-not-inside : goal.returns-then-not-inside
+returns-then-not-inside c =
+    let t = test (goal.at.returns-then-not-inside c).After-inside in
+    sym (line_facts_off _ _ t.0 (sym t.1 ∙ c.if-not-inside.true))
 
 pub returns : goal.returns
 returns c =
-    let looked = c.raster_of-looked.ensures in
-    let ok = refusal_ok _ (ap (λ l. l.refusal) (sym looked) ∙ c.if-looked-ne0.false) in
-    let found = ap (λ l. l.raster) (looked ∙ looked_up-found _ ok) in
-    let on = between_yes _ _ _ c.if-line-lt1.false (rw (ap (λ r. r.rows) found) at c.if-found-line.false) in
-    rw (line_facts-found _ _ ok on, c.v_of-v.ensures, c.f_of-f.ensures, found)
+    let t = test (goal.at.returns c).After-inside in
+    let found = looked_up_ok _ (sym c.in_ok-found.ensures) in
+    rw (
+      line_facts_found _ _ t.0 (sym t.1 ∙ c.if-not-inside.false),
+      c.v_of.ensures,
+      c.f_of.ensures,
+      found.1,
+      raster_given-found _ t.0,
+    )

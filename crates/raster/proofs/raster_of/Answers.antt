@@ -2,11 +2,11 @@ use mathlib.Core.Path.{sym}
 use native.Mathlib.Omega.{arith}
 use borrow.Author.Tests.{le-leb, lt-leb}
 use Rattle.raster.specs.Table.{entry_of}
-use Rattle.raster.proofs.Table.{meant_range, looked_up-found, looked_up-refused}
+use Rattle.raster.proofs.Table.{meant_range, raster_given-found, looked_up_found, looked_up_none}
 use Rattle.raster.proofs.raster_of.Goals as goal
 
 pub returns-then-code-gt-HIGHEST : goal.returns-then-code-gt-HIGHEST
-returns-then-code-gt-HIGHEST c = sym (looked_up-refused _ (lt-leb _ _ c.if-code-gt-HIGHEST.true))
+returns-then-code-gt-HIGHEST c = sym (looked_up_none _ (lt-leb _ _ c.if-code-gt-HIGHEST.true))
 
 pub overflow_sub-meant : goal.overflow_sub-meant
 overflow_sub-meant c =
@@ -21,8 +21,5 @@ entry_at-entry-requires c =
 pub returns : goal.returns
 unfolding entry_of
 returns c =
-    rw (
-      looked_up-found _ (le-leb _ _ c.if-code-gt-HIGHEST.false),
-      c.entry_at-entry.ensures,
-      c.meant_code-meant.ensures,
-    )
+    let ok = le-leb _ _ c.if-code-gt-HIGHEST.false in
+    rw (looked_up_found _ ok, raster_given-found _ ok, c.entry_at-entry.ensures, c.meant_code-meant.ensures)

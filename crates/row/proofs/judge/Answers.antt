@@ -1,18 +1,17 @@
-use mathlib.Core.Path.{sym, ap, ◌∙◌}
-use Rattle.plan.proofs.Plans.{plan_of_refusal}
+use mathlib.Core.Path.{sym}
+use Rattle.plan.proofs.Plans.{planned_ok, planned_err}
 use Rattle.row.specs.Row.{judged}
 use Rattle.row.proofs.Rows.{judged_by-refused}
 use Rattle.row.proofs.judge.Goals as goal
 
-pub returns-then-plan-ne0 : goal.returns-then-plan-ne0
+pub returns-in_default : goal.returns-in_default
 unfolding judged
-returns-then-plan-ne0 c =
-    let e = ap (λ p. p.refusal) c.plan_of-plan.ensures ∙ plan_of_refusal _ _ in
-    sym (judged_by-refused _ _ _ _ _ (λ z. c.if-plan-ne0.true (e ∙ z)))
+returns-in_default c =
+    let bad = planned_err c.args.raster c.args.line (sym c.in_default.ensures) in
+    sym (judged_by-refused _ _ _ _ _ bad.0)
 
 pub returns : goal.returns
 unfolding judged
 returns c =
-    let made = c.plan_of-plan.ensures in
-    let found = sym (plan_of_refusal _ _) ∙ sym (ap (λ p. p.refusal) made) ∙ c.if-plan-ne0.false in
-    rw (found, c.flags-flags.ensures, c.carry_after-carry.ensures, made)
+    let known = planned_ok c.args.raster c.args.line (sym c.in-Ok.ensures) in
+    rw (known.ok, c.flags.ensures, c.carry_after.ensures, known.plan)

@@ -1,18 +1,13 @@
-use mathlib.Core.Path.{refl, sym, ◌∙◌}
-use native.Mathlib.Omega.{arith}
-use Rattle.parts.proofs.Comparing.{any-found_step, any-found_end}
-use Rattle.scan.proofs.any_zero.Invariants.{is_zero}
+use mathlib.Core.Path.{◌∙◌}
+use mathlib.Core.Bool.{false, ◌||◌}
+use borrow.Author.Rules.{rules}
+use lib.Dec.{eqb}
+use Rattle.std.proofs.lemmas.Iterator.{YieldsList-from_slice}
+use Rattle.std.proofs.lemmas.Iterator.Consumers.{fold_from_yields_List}
+use Rattle.parts.proofs.Comparing.{any_fold}
 use Rattle.scan.proofs.any_zero.Goals as goal
-
-pub loop-i-init : goal.loop-i-init
-loop-i-init c = (omega arith, refl)
-
-pub loop-i-preserved : goal.loop-i-preserved
-loop-i-preserved c =
-    let at = c.loop-i in
-    (omega arith, any-found_step is_zero 0 at.found at.i _ (omega arith) ∙ at.invariant.1)
 
 pub returns : goal.returns
 returns c =
-    let at = c.loop-i in
-    sym (any-found_end is_zero at.found at.i _ (omega arith)) ∙ at.invariant.1
+    fold_from_yields_List _ (λ found w. found || eqb w 0) false _ c.fold.ensures.ran (YieldsList-from_slice c.args.words.now cc) (λ a x b q k. search rules)
+    ∙ any_fold (λ w. eqb w 0) false c.args.words.now

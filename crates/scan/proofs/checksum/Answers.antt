@@ -1,23 +1,16 @@
-use mathlib.Core.Path.{sym, ap, ◌∙◌}
-use native.Mathlib.Nat.{mod-eq_of_lt, zero-add}
+use mathlib.Core.Path.{◌≡◌, ◌∙◌}
+use Prim.Native.Nat.{◌+◌, ◌%◌}
+use native.Mathlib.Omega.{arith}
 use borrow.Author.Rules.{rules}
-use Rattle.bits.specs.Words.{nine_of}
-use Rattle.scan.specs.Packet.{checksum_of}
-use Rattle.scan.proofs.Packets.{sum_step, sum_end}
+use Rattle.std.specs.List.{fold}
+use Rattle.std.proofs.lemmas.Iterator.{YieldsList-from_slice}
+use Rattle.std.proofs.lemmas.Iterator.Consumers.{fold_from_yields_List}
+use Rattle.scan.proofs.Packets.{sum_fold, checksum_by_sum}
 use Rattle.scan.proofs.checksum.Goals as goal
 
-pub loop-i-init : goal.loop-i-init
-loop-i-init c = (search rules, search rules, rw zero-add)
-
-pub loop-i-preserved : goal.loop-i-preserved
-loop-i-preserved c =
-    let ws = c.args.words.now in
-    let w = c.loop-i in
-    (search rules, search rules, sum_step w.sum w.i ws c.loop-i-test.true ∙ w.invariant.2)
-
 pub returns : goal.returns
-unfolding checksum_of
 returns c =
     let ws = c.args.words.now in
-    let w = c.loop-i in
-    c.nine.ensures ∙ ap nine_of (sym (mod-eq_of_lt w.invariant.1) ∙ sym (sum_end w.sum w.i ws c.loop-i-test.false) ∙ w.invariant.2)
+    let sum : c.fold-sum.result ≡ fold (λ sum w. (sum + w) % 65536) 0 ws =
+    fold_from_yields_List _ (λ sum w. (sum + w) % 65536) 0 _ c.fold-sum.ensures.ran (YieldsList-from_slice ws cc) (λ a x b q k. search rules) in
+    c.nine.ensures ∙ checksum_by_sum _ ws (rw sum (sum_fold 0 ws ∙ omega arith))

@@ -1,25 +1,18 @@
-use mathlib.Core.Path.{◌≡◌, refl, sym, ◌∙◌}
-use Prim.Native.Nat.{◌+◌, ◌-◌}
-use native.Mathlib.Omega.{arith}
-use Rattle.scan.proofs.Pieces.{scanned-past}
+use mathlib.Core.Path.{◌∙◌}
+use borrow.Author.Rules.{rules}
+use Rattle.std.proofs.Common.{tests}
+use Rattle.std.proofs.lemmas.Iterator.{YieldsList-from_slice}
+use Rattle.std.proofs.lemmas.Iterator.Consumers.{count_from_yields_List}
+use Rattle.std.proofs.lemmas.Iterator.Search.{YieldsList-from_take_while}
+use Rattle.std.proofs.lemmas.List.{take_rest}
+use Rattle.std.proofs.lemmas.List.Folds.{length-prefix_len}
+use Rattle.scan.proofs.Pieces.{none_zero, scanned_onward}
 use Rattle.scan.proofs.onward.Goals as goal
 
-pub returns-then-at-ne0 : goal.returns-then-at-ne0
-returns-then-at-ne0 c = record { place = (omega arith, omega arith); rest = refl }
-
-pub loop-i-init : goal.loop-i-init
-loop-i-init c = (omega arith, omega arith, refl)
-
-pub returns-then-any_zero : goal.returns-then-any_zero
-returns-then-any_zero c =
-    let inv = c.loop-i.invariant in
-    record { place = (inv.0, inv.1); rest = inv.2 }
-
-pub loop-i-preserved : goal.loop-i-preserved
-loop-i-preserved c =
-    let at = c.loop-i in
-    let sixteen : at.i + 16 - at.i ≡ 16 = omega arith in
-    (omega arith, omega arith, at.invariant.2 ∙ scanned-past _ at.i 16 (rw sixteen at (sym c.any_zero.ensures ∙ c.if-any_zero.false)))
-
-pub returns : goal.returns
-returns c = let inv = c.loop-i.invariant in record { place = (inv.0, inv.1); rest = inv.2 }
+pub returns-clause-rest : goal.returns-clause-rest
+returns-clause-rest c =
+    let chunks = c.as_chunks.result.0.now in
+    scanned_onward 16 _ _ _ c.args.region.now chunks (rw take_rest at c.as_chunks.ensures.front)
+    (count_from_yields_List c.take_while.result _ c.count-passed.ensures.ran
+    (YieldsList-from_take_while _ none_zero (YieldsList-from_slice chunks cc) c.take_while.ensures.closure c.take_while.ensures.done (λ x b q k. search (rules, tests)))
+    ∙ length-prefix_len none_zero chunks)

@@ -1,12 +1,12 @@
 use mathlib.Core.Path.{◌≡◌, refl, sym, ap, ◌∙◌}
 use Prim.Native.Nat.{ℕ, ◌+◌, ◌%◌, ◌≤◌}
 use native.Mathlib.Omega.{arith}
-use native.Mathlib.Nat.{zero-add, mod-eq_of_lt}
+use native.Mathlib.Nat.{zero-add}
 use lib.ListN.{length, get_or, take, drop, length-take}
 use borrow.Author.Rules.{rules}
 use Rattle.scan.specs.declared.Here.TheVariants.{Whole}
 use Rattle.scan.specs.Scan.{here_of, piece_at}
-use Rattle.scan.proofs.Packets.{sum_walk, marked-room, sum_end}
+use Rattle.scan.proofs.Packets.{sum_step, marked-room, sum_end}
 use Rattle.scan.proofs.Pieces.{here_of-nothing, here_of_cut, here_of_whole, with_rest, scanned_start, scanned-nothing, scanned_cut, scanned_whole, scanned_end, scan_end}
 use Rattle.scan.proofs.scan.Goals as goal
 
@@ -31,7 +31,7 @@ scan-preserved-then-n-i-lt6 c =
     (search rules, omega (arith, marked-room r s.i marked), s.invariant.2 ∙ scanned_cut r s.i c.scan-test.true s.words s.cut s.wrong (here_of_cut r s.i marked (omega arith)))
 
 pub loop-j-init : goal.loop-j-init
-loop-j-init c = (refl, refl, search rules, rw zero-add)
+loop-j-init c = (refl, refl, rw zero-add)
 
 pub scan-preserved-then-n-i : goal.scan-preserved-then-n-i
 scan-preserved-then-n-i c =
@@ -44,12 +44,8 @@ scan-preserved-then-n-i c =
 pub loop-j-preserved : goal.loop-j-preserved
 loop-j-preserved c =
     let s = c.scan in
-    let w = c.loop-j in (
-      w.invariant.0,
-      w.invariant.1,
-      search rules,
-      rw w.invariant.0 (sum_walk w.sum s.i w.j _ c.args.region.now c.loop-j-test.true (omega arith)) ∙ w.invariant.3,
-    )
+    let w = c.loop-j in
+    (w.invariant.0, w.invariant.1, rw w.invariant.0 (sum_step w.sum s.i w.j _ c.args.region.now (omega arith) (omega arith)) ∙ w.invariant.2)
 
 pub scan-preserved-then-n-i-2 : goal.scan-preserved-then-n-i-2
 scan-preserved-then-n-i-2 c =
@@ -70,7 +66,7 @@ scan-preserved c =
     let size : get_or r (i + 5) 0 % 256 + 7 ≡ last + 1 = omega arith in
     let whole : here_of (piece_at (drop i r)) ≡ Whole (last + 1) = here_of_whole r i marked (omega (arith, c.if-n-i-2.false)) ∙ ap Whole size in
     let done : length (take last (drop i r)) ≤ w.j = simp length-take (omega (arith, c.loop-j-test.false)) in
-    let sum = sym (mod-eq_of_lt w.invariant.2) ∙ sym (sum_end w.sum w.j (take last (drop i r)) done) ∙ w.invariant.3 in (
+    let sum = sym (sum_end w.sum w.j (take last (drop i r)) done) ∙ w.invariant.2 in (
       omega arith,
       omega arith,
       s.invariant.2

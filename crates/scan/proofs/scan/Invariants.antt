@@ -1,5 +1,5 @@
 use mathlib.Core.Path.{◌≡◌}
-use Prim.Native.Nat.{◌+◌, ◌-◌, ◌%◌, ◌≤◌, ◌<◌}
+use Prim.Native.Nat.{◌+◌, ◌-◌, ◌%◌, ◌≤◌}
 use lib.ListN.{take, drop}
 use Rattle.scan.specs.Packet.{sum_of}
 use Rattle.scan.specs.Scan.{scan, scanned}
@@ -9,11 +9,7 @@ use Rattle.scan.proofs.scan.Given as goal
 abbrev pub invariant-loop-j : goal.invariant-loop-j
 invariant-loop-j l = (l.i ≡ l.initial.i)
     × (l.cut ≡ l.initial.cut)
-    × (l.sum < 512)
     × ((l.sum + sum_of (drop l.j (take l.last (drop l.initial.i l.region)))) % 512 ≡ sum_of (drop 3 (take l.last (drop l.initial.i l.region))) % 512)
-
-abbrev pub decreases-loop-j : goal.decreases-loop-j
-decreases-loop-j l = l.last - l.j
 
 abbrev pub invariant-scan : goal.invariant-scan
 invariant-scan l = (l.words ≤ l.i) × (l.i ≤ l.n) × (scanned (scan l.region) ≡ with_rest l.words l.cut l.wrong (scanned (scan (drop l.i l.region))))

@@ -1,50 +1,51 @@
 -- lay_pairs: the first pair is laid, and the others are dealt out of the words that were cut.
-use mathlib.Core.Path.{◌≡◌, refl, ◌∙◌}
-use Prim.Native.Nat.{◌+◌, ◌-◌, ◌/◌, ◌%◌, ◌^◌}
+use mathlib.Core.Path.{◌≡◌, refl, ap, ◌∙◌}
+use Prim.Native.Nat.{◌+◌, ◌-◌, ◌*◌, ◌/◌, ◌%◌, ◌<◌}
 use native.Mathlib.Omega.{arith}
-use lib.ListN.{length-set}
-use borrow.Author.Rules.{rules}
+use lib.ListN.{length, take, length-take}
+use lib.Seq.{get_or-take}
+use Rattle.parts.proofs.Inside.{length_part}
+use Rattle.taking.specs.Deal.{straddling}
 use Rattle.taking.proofs.Words.{laid_none, lay_first}
-use Rattle.taking.proofs.Dealing.{laid_cut}
+use Rattle.taking.proofs.Dealing.{laid_cut, straddling_part, tens_each}
 use Rattle.taking.proofs.lay_pairs.Goals as goal
 
 pub returns-then-pairs-eq0 : goal.returns-then-pairs-eq0
 returns-then-pairs-eq0 c =
     let a = c.args in
-    λ code s. laid_none a.words.now c.requires.1 code a.total s a.last a.at a.pairs a.place.pairs a.place.bit a.y.now a.c.now c.if-pairs-eq0.true
+    λ code s. laid_none a.block.words.now a.block.tens code a.total s a.last.bits a.pairs a.place.pairs a.place.bit a.y.now a.c.now c.if-pairs-eq0.true
 
-pub deal-requires : goal.deal-requires
-deal-requires c =
-    let cut = c.straddle_words in (
-      search rules,
-      simp length-set (omega arith),
-      simp length-set (omega arith),
-      λ i h. omega (arith, cut.ensures i h),
-    )
-
-pub shape_of-y : goal.shape_of-y
-shape_of-y c =
-    let a = c.args in
-    let pair = c.slide_pair.result / 0x100000 / 2 ^ (20 - a.place.bit) in
-    omega (arith, length-set a.y.now a.place.pairs (pair / 1024 % 1024))
-
-pub shape_of-c : goal.shape_of-c
-shape_of-c c =
-    let a = c.args in
-    let pair = c.slide_pair.result / 0x100000 / 2 ^ (20 - a.place.bit) in
-    omega (arith, length-set a.c.now a.place.pairs (pair % 1024))
+pub invariant_of-others : goal.invariant_of-others
+invariant_of-others c =
+    let n = 2 * (c.args.pairs - 1) in
+    let out = c.straddle_words.new.out in
+    let ws = c.args.block.words.now in
+    let long : length c.part.result.words.now ≡ 2 * c.args.pairs - 1 = rw c.part.ensures (length_part (1 - c.args.place.bit / 10) (2 * c.args.pairs - 1) ws (omega arith)) in record {
+      tens = tens_each (take n out) (λ i h.
+          let m : i < n = omega (arith, length-take n out) in
+          omega (arith, get_or-take n out i 0 m, c.straddle_words.ensures i (omega arith)));
+      few = omega (arith, length-take n out);
+    }
 
 pub returns : goal.returns
 returns c =
     let a = c.args in
-    let ws = a.words.now in
-    let tens = c.requires.1 in
+    let ws = a.block.words.now in
+    let tens = a.block.tens in
     let from = a.place.pairs in
-    let n = a.pairs - 1 in
-    let all : n + 1 ≡ a.pairs = omega arith in
+    let bit = a.place.bit in
+    let k = a.pairs - 1 in
+    let n = 2 * k in
+    let j = 1 - bit / 10 in
+    let out = c.straddle_words.new.out in
+    let all : k + 1 ≡ a.pairs = omega arith in
+    let long : length c.part.result.words.now ≡ 2 * a.pairs - 1 = rw c.part.ensures (length_part j (2 * a.pairs - 1) ws (omega arith)) in
+    let calm = c.requires.1 in
     λ code s.
-    lay_first ws tens code a.total s a.last a.at from a.place.bit a.y.now a.c.now (omega arith) (c.requires.3 0 (omega arith))
-    (omega arith) (omega arith) (omega arith) c.slide_pair.ensures refl refl
-    ∙ laid_cut ws tens a.last a.at a.place.bit (a.at + 1 - a.place.bit / 10) (omega arith) c.requires.2 (omega arith) c.straddle_words.new.out
-    code a.total s from n _ _ (omega arith) (omega arith) (omega arith) (λ k h. c.requires.3 k (omega arith)) c.straddle_words.ensures
+    lay_first ws tens code a.total s a.last.bits from bit a.y.now a.c.now (omega arith) (calm 0 (omega arith)) (omega arith) (omega arith) (omega arith) c.slide.ensures refl refl
+    ∙ laid_cut ws tens a.last.bits bit j (omega arith) a.last.sixty (omega arith) (take n out) code a.total s from k _ _ (omega arith) (omega arith) (omega arith)
+    (λ i h. calm i (omega arith))
+    (λ i h.
+    get_or-take n out i 0 h ∙ c.straddle_words.ensures i (omega arith) ∙ ap (λ v. straddling v i (bit % 10)) c.part.ensures
+    ∙ straddling_part j (2 * a.pairs - 1) ws i (bit % 10) (omega arith))
     ∙ rw (c.deal.ensures.0, c.deal.ensures.1, all)

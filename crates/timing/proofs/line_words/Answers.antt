@@ -1,19 +1,17 @@
-use mathlib.Core.Path.{sym, ap, ◌∙◌}
-use Rattle.raster.specs.declared.LineFacts.{LineFacts}
-use Rattle.raster.proofs.Lines.{line_facts_refusal}
+use mathlib.Core.Path.{sym}
+use Rattle.std.proofs.lemmas.Result.{err_from_is_err_and}
+use Rattle.raster.proofs.Lines.{line_facts_ok, line_facts_err}
 use Rattle.timing.proofs.Line.{line_words_made, line_words_refused}
 use Rattle.timing.proofs.line_words.Goals as goal
 
-pub returns-then-facts-ne0 : goal.returns-then-facts-ne0
-returns-then-facts-ne0 c =
+pub returns-in_err-line_facts : goal.returns-in_err-line_facts
+returns-in_err-line_facts c =
     let at = c.args in
-    let facts = c.line_facts-facts in
-    let e = ap (λ (r : LineFacts). r.refusal) facts.ensures ∙ line_facts_refusal at.raster at.line in
-    rw (e, line_words_refused at.raster at.line (λ z. c.if-facts-ne0.true (e ∙ z)))
+    let bad = line_facts_err at.raster at.line (sym c.in_err-line_facts.ensures) in
+    let p = err_from_is_err_and c.from_residual.result c.from_residual.ensures.1 in
+    rw (p.1, p.2, bad.1, line_words_refused at.raster at.line bad.0)
 
 pub returns : goal.returns
 returns c =
     let at = c.args in
-    let facts = c.line_facts-facts in
-    let e = sym (line_facts_refusal at.raster at.line) ∙ sym (ap (λ (r : LineFacts). r.refusal) facts.ensures) ∙ c.if-facts-ne0.false in
-    rw (c.nine-ln0.ensures, c.nine-ln1.ensures, line_words_made at.raster at.line e)
+    rw (c.nine-ln0.ensures, c.nine-ln1.ensures, line_words_made at.raster at.line (line_facts_ok at.raster at.line (sym c.in_ok-line_facts.ensures)).0)

@@ -1,36 +1,39 @@
-use mathlib.Core.Path.{◌≡◌, sym, ap, ◌∙◌}
-use mathlib.Core.Bool.{true}
+use mathlib.Core.Path.{◌≡◌, sym}
+use mathlib.Core.Bool.{false, ◌&&◌}
+use mathlib.Core.Logic.{◌⊎◌, ⊎_elim}
+use Prim.Native.Nat.{ℕ, ◌≤◌, ◌<◌}
+use lib.Dec.{leb}
 use borrow.Author.Tests.{le-leb, lt-leb}
-use Rattle.raster.specs.declared.LookedUp.{LookedUp}
-use Rattle.raster.specs.Table.{raster_ok}
-use Rattle.raster.proofs.Table.{refusal_ok, refusal_bad}
+use Rattle.std.proofs.lemmas.Result.{err_from_is_err_and}
+use Rattle.refusal.specs.Refusal.{refusal_numbered}
+use Rattle.raster.proofs.Table.{looked_up_ok, looked_up_err}
 use Rattle.timing.specs.Line.{line_read}
 use Rattle.timing.proofs.read_line.Goals as goal
-use Rattle.timing.proofs.read_line.Goals.{Else-looked-ne0}
 
--- past the first test the raster is one of 0..11
-raster-ok : (c : Else-looked-ne0) → raster_ok c.args.raster ≡ true
-raster-ok c =
-    refusal_ok c.args.raster (sym (ap (λ (r : LookedUp). r.refusal) c.raster_of-looked.ensures) ∙ c.if-looked-ne0.false)
+pub returns-in_err-raster_of : goal.returns-in_err-raster_of
+unfolding line_read refusal_numbered
+returns-in_err-raster_of c =
+    let bad = looked_up_err c.args.raster (sym c.in_err-raster_of.ensures) in
+    let p = err_from_is_err_and c.from_residual.result c.from_residual.ensures.1 in
+    rw (p.1, p.2, bad.1, bad.0)
 
-pub returns-then-looked-ne0 : goal.returns-then-looked-ne0
-unfolding line_read
-returns-then-looked-ne0 c =
-    let e = ap (λ (r : LookedUp). r.refusal) c.raster_of-looked.ensures in
-    rw (refusal_bad c.args.raster (λ z. c.if-looked-ne0.true (e ∙ z)))
+-- one of the two words is too high
+high : (a b : ℕ) → (1023 < a) ⊎ ((a ≤ 1023) × (1023 < b)) → (leb a 0x3ff && leb b 0x3ff) ≡ false
+high a b = ⊎_elim (λ h. rw (lt-leb a 1023 h)) (λ h. rw (le-leb a 1023 h.0, lt-leb b 1023 h.1))
 
 pub returns-then-ln0-gt1023 : goal.returns-then-ln0-gt1023
-unfolding line_read
-returns-then-ln0-gt1023 c = rw (raster-ok (goal.at.returns-then-ln0-gt1023 c).Else-looked-ne0, lt-leb _ _ c.if-ln0-gt1023.true)
+unfolding line_read refusal_numbered
+returns-then-ln0-gt1023 c = rw ((looked_up_ok _ (sym c.in_ok-raster_of.ensures)).0, high _ _ c.then-ln0-gt1023.either)
 
-pub returns-then-ln1-gt1023 : goal.returns-then-ln1-gt1023
-unfolding line_read
-returns-then-ln1-gt1023 c = rw (raster-ok (goal.at.returns-then-ln1-gt1023 c).Else-looked-ne0, le-leb _ _ c.if-ln0-gt1023.false, lt-leb _ _ c.if-ln1-gt1023.true)
-
-pub line_from-line-requires : goal.line_from-line-requires
-line_from-line-requires c = raster-ok (goal.at.line_from-line-requires c).Else-looked-ne0
+pub line_from-requires : goal.line_from-requires
+line_from-requires c = (looked_up_ok _ (sym c.in_ok-raster_of.ensures)).0
 
 pub returns : goal.returns
 unfolding line_read
 returns c =
-    rw (c.line_from-line.ensures, raster-ok (goal.at.returns c).Else-looked-ne0, le-leb _ _ c.if-ln0-gt1023.false, le-leb _ _ c.if-ln1-gt1023.false)
+    rw (
+      (looked_up_ok _ (sym c.in_ok-raster_of.ensures)).0,
+      le-leb _ _ c.if-ln0-gt1023.false,
+      le-leb _ _ c.if-ln1-gt1023.false,
+      c.line_from.ensures,
+    )

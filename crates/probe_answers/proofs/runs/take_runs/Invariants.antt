@@ -1,5 +1,5 @@
-use Rattle.std.proofs.Common.{◌≤◌, length, ◌+◌, ◌*◌}
+use Rattle.std.proofs.Common.{length, ◌≤◌}
 use Rattle.probe_answers.proofs.runs.take_runs.Given as goal
 
-abbrev pub invariant-loop : goal.invariant-loop
-invariant-loop l = (l.count ≤ length l.words) × (l.next ≤ 65536 + l.counter * 2)
+abbrev pub invariant-loop-run : goal.invariant-loop-run
+invariant-loop-run l = l.count ≤ length l.words

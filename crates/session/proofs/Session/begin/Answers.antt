@@ -1,36 +1,23 @@
--- begin: the two refusals, and the session of a module that is begun.
-use mathlib.Core.Path.{◌≡◌, sym, ap, ◌∙◌}
-use mathlib.Core.Bool.{true, false, not, ◌&&◌}
-use Rattle.raster.specs.declared.LookedUp.{LookedUp}
-use Rattle.raster.specs.Table.{looked_up}
-use Rattle.raster.proofs.Table.{looked_up-found, refusal_ok, refusal_bad}
-use Rattle.session.specs.Session.{in_range, begin_refusal, begun}
-use Rattle.session.proofs.Refusing.{or_not}
+use mathlib.Core.Path.{sym}
+use Rattle.std.proofs.lemmas.Result.{err_from_is_err_and}
+use Rattle.refusal.specs.Refusal.{refusal_numbered}
+use Rattle.raster.proofs.Table.{looked_up_ok, looked_up_err, raster_given-found}
+use Rattle.session.specs.Session.{begin_refusal, begun}
 use Rattle.session.proofs.Session.begin.Goals as goal
-use Rattle.session.proofs.Session.begin.Goals.{After-raster_of-looked, Else-self-is_in_range}
 
--- past the first test the session is in range, and no module runs
-idle : (c : Else-self-is_in_range) → let self = c.args.self in (not self.running && in_range self) ≡ true
-idle c =
-    rw (← c.is_in_range.ensures) (or_not c.args.self.running c.is_in_range.result false c.if-self-is_in_range.false)
+pub returns-then-not-is_idle : goal.returns-then-not-is_idle
+unfolding begun begin_refusal refusal_numbered
+returns-then-not-is_idle c = rw (← c.is_idle.ensures, c.if-not-is_idle.true)
 
--- what is looked up is the table's
-found : (c : After-raster_of-looked) → c.raster_of-looked.result.refusal ≡ (looked_up c.args.raster).refusal
-found c = ap (λ (l : LookedUp). l.refusal) c.raster_of-looked.ensures
-
-pub returns-then-self-is_in_range : goal.returns-then-self-is_in_range
-unfolding begun begin_refusal
-returns-then-self-is_in_range c =
-    rw (← c.is_in_range.ensures, or_not c.args.self.running c.is_in_range.result true c.if-self-is_in_range.true)
-
-pub returns-then-looked-ne0 : goal.returns-then-looked-ne0
-unfolding begun begin_refusal
-returns-then-looked-ne0 c =
-    rw (idle (goal.at.returns-then-looked-ne0 c).Else-self-is_in_range, refusal_bad _ (λ z. c.if-looked-ne0.true (found (goal.at.returns-then-looked-ne0 c).After-raster_of-looked ∙ z)))
+pub returns-in_err-raster : goal.returns-in_err-raster
+unfolding begun begin_refusal refusal_numbered
+returns-in_err-raster c =
+    let bad = looked_up_err c.args.raster (sym c.in_err-raster.ensures) in
+    let p = err_from_is_err_and c.from_residual.result c.from_residual.ensures.1 in
+    rw (p.1, p.2, bad.1, ← c.is_idle.ensures, c.if-not-is_idle.false, bad.0)
 
 pub returns : goal.returns
 unfolding begun begin_refusal
 returns c =
-    let code = c.args.raster in
-    let ok = refusal_ok code (sym (found (goal.at.returns c).After-raster_of-looked) ∙ c.if-looked-ne0.false) in
-    rw (idle (goal.at.returns c).Else-self-is_in_range, ok, c.start.ensures, c.raster_of-looked.ensures, looked_up-found code ok)
+    let found = looked_up_ok c.args.raster (sym c.in_ok-raster.ensures) in
+    rw (← c.is_idle.ensures, c.if-not-is_idle.false, found.0, found.1, raster_given-found c.args.raster found.0, c.start.ensures)

@@ -1,17 +1,24 @@
--- end: the refusal, and the answer of a module that is ended.
-use mathlib.Core.Bool.{true, false}
+use mathlib.Core.Path.{sym, ap}
+use Rattle.std.proofs.lemmas.Result.{err_from_is_err_and}
+use Rattle.refusal.specs.Refusal.{refusal_numbered}
+use Rattle.raster.specs.declared.Raster.{Raster}
 use Rattle.session.specs.Session.{end_refusal, ended, said}
-use Rattle.session.proofs.Refusing.{not_or_not}
+use Rattle.session.proofs.Refusing.{opened_ok, opened_err}
 use Rattle.session.proofs.Session.end.Goals as goal
 
-pub returns-then-self-is_in_range : goal.returns-then-self-is_in_range
-unfolding end_refusal ended said
-returns-then-self-is_in_range c =
-    let idle = not_or_not c.args.self.running c.is_in_range.result true c.if-self-is_in_range.true in
-    record { answer = rw (← c.is_in_range.ensures, idle, c.none.ensures); means = rw (← c.is_in_range.ensures, idle) }
+pub returns-in_err-rows : goal.returns-in_err-rows
+unfolding end_refusal ended said refusal_numbered
+returns-in_err-rows c =
+    let shut = opened_err c.args.self (sym c.in_err-rows.ensures) in
+    let p = err_from_is_err_and c.from_residual.result c.from_residual.ensures.1 in
+    record { answer = rw (p.1, p.2, shut.1, shut.0); means = rw (p.1, shut.0) }
 
 pub returns : goal.returns
 unfolding end_refusal ended said
 returns c =
-    let self = c.args.self in
-    let runs = not_or_not self.running c.is_in_range.result false c.if-self-is_in_range.false in record { answer = rw (← c.is_in_range.ensures, runs, c.fresh.ensures, c.verdict_of-verdict.ensures.answer, c.raster_of-lines.ensures); means = rw (← c.is_in_range.ensures, runs, c.verdict_of-verdict.ensures.means, c.raster_of-lines.ensures) }
+    let found = opened_ok c.args.self (sym c.in_ok-rows.ensures) in
+    let rows = ap (λ (r : Raster). r.rows) found.1 in
+    record {
+      answer = rw (found.0, c.fresh.ensures, c.verdict_of.ensures.answer, rows);
+      means = rw (found.0, c.verdict_of.ensures.means, rows);
+    }

@@ -1,11 +1,21 @@
-use Rattle.use_row.proofs.RowsRefused.{build_told}
+use Rattle.law_row.proofs.BuiltRow.{built-fits}
+use Rattle.use_row.proofs.Buffers.{beyond, kept}
 use Rattle.use_row.proofs.refusals.build_row.Goals as goal
 
-pub returns : goal.returns
-returns c =
-    let call = c.build.ensures in
+pub returns-clause-ykept : goal.returns-clause-ykept
+returns-clause-ykept c = kept _ _ _ _ c.build.ensures.answer c.build.ensures.luma
+
+pub returns-clause-ckept : goal.returns-clause-ckept
+returns-clause-ckept c = kept _ _ _ _ c.build.ensures.answer c.build.ensures.chroma
+
+pub returns-clause-ybeyond : goal.returns-clause-ybeyond
+returns-clause-ybeyond c =
     let at = c.args in
-    let t = build_told at.raster at.line at.carry at.yactive.now at.cactive.now at.ylaid.now at.claid.now at.y.now at.c.now
-    call.answer call.luma call.chroma in
-    let q = t.0 in
-    record { four = q.four; five = q.five; two = q.two; three = q.three; one = q.one; done = q.done; zeros = t.1; ykept = t.2; ckept = t.3; ybeyond = t.4; cbeyond = t.5 }
+    beyond _ _ _ _ c.build.ensures.luma
+    (λ none. (built-fits at.raster at.line at.carry at.yactive.now at.cactive.now at.ylaid.now at.claid.now at.y.now at.c.now none).y_length)
+
+pub returns-clause-cbeyond : goal.returns-clause-cbeyond
+returns-clause-cbeyond c =
+    let at = c.args in
+    beyond _ _ _ _ c.build.ensures.chroma
+    (λ none. (built-fits at.raster at.line at.carry at.yactive.now at.cactive.now at.ylaid.now at.claid.now at.y.now at.c.now none).c_length)

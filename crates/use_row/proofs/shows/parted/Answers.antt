@@ -1,21 +1,17 @@
 use mathlib.Core.Path.{refl}
 use native.Mathlib.Omega.{arith}
-use Rattle.use_row.proofs.Parting.{parting_end, parting_start, parting_step}
+use Rattle.cable.specs.Channels.{paired}
+use Rattle.use_row.proofs.Parting.{parting_end, parting_step}
 use Rattle.use_row.proofs.shows.parted.Goals as goal
 
-pub returns-then-y-c : goal.returns-then-y-c
-returns-then-y-c c = λ same _. absurd (c.if-y-c.true same)
-
-pub returns-then-words-y : goal.returns-then-words-y
-returns-then-words-y c = λ _ whole. absurd (c.if-words-y.true (omega (arith, whole)))
-
 pub loop-i-init : goal.loop-i-init
-loop-i-init c = parting_start _ _ _
+unfolding paired
+loop-i-init c = refl
 
 pub loop-i-preserved : goal.loop-i-preserved
 loop-i-preserved c =
-    parting_step _ _ _ c.if-y-c.false c.if-words-y.false _ _ _ c.loop-i.invariant c.loop-i-test.true
+    parting_step c.args.words.now c.loop-i.y c.loop-i.c (omega arith) c.loop-i.i c.loop-i.invariant (omega arith) (omega arith)
 
 pub returns : goal.returns
 returns c = λ _ whole.
-    (refl, parting_end _ _ _ c.if-y-c.false c.if-words-y.false _ _ _ c.loop-i.invariant (omega arith) whole)
+    (refl, parting_end c.args.words.now c.loop-i.y c.loop-i.c (omega arith) c.loop-i.i c.loop-i.invariant (omega arith) (omega (arith, whole)))

@@ -1,4 +1,0 @@
-use Rattle.reader.proofs.Reader.fresh.Goals as goal
-
-pub returns : goal.returns
-returns c = rw c.blank_at.ensures

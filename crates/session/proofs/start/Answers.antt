@@ -1,4 +1,0 @@
-use Rattle.session.proofs.start.Goals as goal
-
-pub returns : goal.returns
-returns c = rw c.none.ensures

@@ -1,7 +1,0 @@
-use Rattle.use_row.proofs.twice.build_row.Goals as goal
-
-pub returns : goal.returns
-returns c =
-    let first = c.build-first.ensures in
-    let second = c.build-second.ensures in
-    λ e f. (rw (first.answer, second.answer, e, f), (rw (first.luma, second.luma, e, f), rw (first.chroma, second.chroma, e, f)))

@@ -2,7 +2,7 @@
 #![tactic(auto)]
 
 ghost use Rattle.std.specs.Prelude.{◌≡◌, ◌<◌, Some, None, Ok, if◌then◌else◌, ltb};
-ghost use Rattle.reader.specs.Reader.{brings, chooses, counted, ends, fresh, goes_on, is_cut, of_high_byte, of_low_byte, of_options_count, of_raster_byte, of_tag_byte, of_tag_count, of_wipe_byte, of_word_count, read_of, stopped, tagged, tag_with, waits, word_of};
+ghost use Rattle.reader.specs.Reader.{brings, chooses, counted, ends, fresh, goes_on, is_cut, of_high_byte, of_low_byte, of_options_count, of_raster_byte, of_tag_byte, of_tag_count, of_wipe_byte, of_word_count, read_of, stopped, tagged, tag_with, waits};
 
 use refusal::Refusal;
 
@@ -312,7 +312,7 @@ impl Reader {
         Ok(bring(Piece::Word(word), self.go_on(Stage::LowByte, left - 1)))
     }
 
-    // Takes a byte; 9, 4, 3. After a refusal nothing of the file is read: the reader is then `stopped`.
+    // Takes a byte; 9, 4, 3. After a refusal nothing of the file is to be read: who reads it goes on with `stopped`.
     #[tactic(auto, unfolding(crate::specs::Reader::read_of))]
     pub fn read(self, byte: u8) -> Result<Read, Refusal>
         ensures { result ≡ read_of self byte }

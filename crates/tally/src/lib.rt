@@ -14,7 +14,7 @@ pub struct Counts {
     pub faults: u32,
 }
 
-// `Refused` is the verdict of a call that was refused; no label has a word for it.
+// `Refused` is for where no session told; no label has a word for it.
 #[derive(Clone, Copy)]
 pub enum Verdict {
     Refused,
@@ -28,7 +28,7 @@ impl Counts {
     // Both counts stay here once there.
     pub const CEILING: u32 = u32::MAX;
 
-    // Where every module starts; what a refused call answers.
+    // Where every module starts.
     pub fn none() -> Counts
         ensures { result ≡ no_counts }
     {
@@ -40,7 +40,7 @@ impl Counts {
 fn raise(one: bool, n: u32) -> u32
     ensures { result ≡ raised one n }
 {
-    n.saturating_add(u32::from(one))
+    n.saturating_add(u32::from(one)).min(Counts::CEILING)
 }
 
 // Whether a happening is a row that counts.

@@ -2,7 +2,7 @@
 use mathlib.Core.Path.{◌≡◌, refl, sym, ap, ◌∙◌}
 use mathlib.Core.Bool.{Bool, true}
 use mathlib.Core.List.{List, [], ◌∷◌, ◌++◌}
-use Prim.Native.Nat.{ℕ, zero, suc, ◌%◌, ◌≤◌}
+use Prim.Native.Nat.{ℕ, zero, suc, ◌%◌, ◌≤◌, ◌<◌}
 use native.Mathlib.Omega.{arith}
 use native.Mathlib.Nat.{mod-eq_of_lt}
 use lib.Dec.{leb}
@@ -12,8 +12,11 @@ use Rattle.bits.specs.Bits.{bits, number, word_bits}
 use Rattle.bits.specs.Words.{words10}
 use Rattle.bits.proofs.Choice.{if_zero}
 use Rattle.bits.proofs.Bits.{number-bits}
+use Rattle.std.specs.Prelude.{Err}
+use Rattle.refusal.specs.Refusal.{refusal_numbered, refusal_of}
+use Rattle.refusal.proofs.Answers.{result_of_bad, refusal_of_result}
 use Rattle.cable.specs.Bits.{scrambled, unscrambled, past}
-use Rattle.cable.specs.Words.{scramble_words, unscramble_words, scramble_word, unscramble_word, last_ten, scramble_next, unscramble_next, code_refusal, filled}
+use Rattle.cable.specs.Words.{scramble_words, unscramble_words, scramble_word, unscramble_word, last_ten, scramble_next, unscramble_next, code_refusal, coded, filled}
 use Rattle.bits.proofs.Lists.{cons_equal}
 use Rattle.bits.proofs.Words.{words10_head, words10_tail}
 use Rattle.cable.proofs.Bits.{cable_bit, data_bit, taken_bit, taken, scrambled_bitwise, unscrambled_bitwise, taken_bitwise, unscrambled_of_scrambled, unscrambled_from_eleventh}
@@ -136,6 +139,10 @@ unscramble_from_eleventh g h ws =
     ap (drop 10) (unscrambled_words_bits ws g) ∙ unscrambled_from_eleventh (past g) (past h) (word_bits ws) ∙ sym (ap (drop 10) (unscrambled_words_bits ws h))
 
 -- ---- refusals
+
+-- "A refusal returns its number ..": its row of the table alone, and no history
+pub coded-refused : (n next : ℕ) → (n ≡ 0 → ⊥) → (coded n next ≡ Err (refusal_numbered n)) × (n < 8 → refusal_of (coded n next) ≡ n)
+coded-refused n next h = (result_of_bad next n h, refusal_of_result next n)
 
 -- "A refusal .. changes no buffer"
 pub filled-refused : (n : ℕ) (result out : List ℕ) → (n ≡ 0 → ⊥) → out ≡ filled n result out

@@ -1,8 +1,8 @@
 -- Laws of the refusal of building: what a row that is built is built from.
-use mathlib.Core.Path.{◌≡◌}
+use mathlib.Core.Path.{◌≡◌, refl}
 use mathlib.Core.Bool.{true, ◌&&◌, and_assoc}
 use mathlib.Core.List.{List}
-use Prim.Native.Nat.{ℕ, ◌≤◌, ◌<◌}
+use Prim.Native.Nat.{ℕ, zero, suc, ◌≤◌, ◌<◌}
 use native.Mathlib.Omega.{arith}
 use lib.Dec.{leb, eqb}
 use lib.ListN.{length}
@@ -10,7 +10,10 @@ use borrow.Author.Tests.{eqb-true, leb-true}
 use Rattle.bits.specs.Choice.{if}
 use Rattle.bits.specs.Words.{words10}
 use Rattle.bits.proofs.Choice.{and-true, if_zero}
-use Rattle.refusal.proofs.Answers.{if_below}
+use Rattle.std.specs.Prelude.{Err}
+use Rattle.refusal.specs.Refusal.{refusal_numbered, refusal_of}
+use Rattle.refusal.proofs.Answers.{refusal_of_result, if_below}
+use Rattle.parts.specs.Parts.{laid_unless}
 use Rattle.raster.specs.Lines.{line_refusal}
 use Rattle.raster.proofs.Lines.{line_refusal_below}
 use Rattle.plan.specs.declared.Plan.{Plan}
@@ -19,7 +22,7 @@ use Rattle.plan.specs.Plan.{plan_of}
 use Rattle.plan.proofs.Plans.{plan_of-fits}
 use Rattle.plan.proofs.Rows.{or_refusal_below, or_refusal_first, or_refusal_none}
 use Rattle.row.specs.Before.{Carry, carry_ok}
-use Rattle.compose.specs.Compose.{lengths_ok, room_ok, refusal_under, build_refusal}
+use Rattle.compose.specs.Compose.{lengths_ok, room_ok, refusal_under, build_refusal, built_for}
 
 -- ---- lengths_ok
 
@@ -111,3 +114,11 @@ build_refusal-fits code line carry y_active c_active y_laid c_laid y_room c_room
       (lengths_of plan y_active y_laid b.y_lengths).1,
       (lengths_of plan c_active c_laid b.c_lengths).1,
     )
+
+-- ---- what is answered where a row is refused: the refusal alone, with the buffers as they were
+
+pub refused-nothing : (n : ℕ) (y_active c_active y_stream c_stream y c : List ℕ) → (n ≡ 0 → ⊥)
+    → ((built_for n y_active c_active ≡ Err (refusal_numbered n)) × (n < 8 → refusal_of (built_for n y_active c_active) ≡ n))
+    × ((y ≡ laid_unless n y_stream y) × (c ≡ laid_unless n c_stream c))
+refused-nothing zero y_active c_active y_stream c_stream y c bad = absurd (bad refl)
+refused-nothing (suc n) y_active c_active y_stream c_stream y c bad = ((refl, refusal_of_result zero (suc n)), (refl, refl))

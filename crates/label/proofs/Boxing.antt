@@ -11,7 +11,7 @@ use Rattle.label.specs.declared.Label.{Label}
 use Rattle.label.specs.Label.{boxed, room}
 use Rattle.label.specs.Writing.{Writes}
 
-abbrev line : List ℕ → ℕ → Label
+abbrev pub line : List ℕ → ℕ → Label
 line bytes size = record { bytes = bytes; size = size }
 
 -- a byte after the text takes a zero's place; a zero more past the end is not seen

@@ -88,7 +88,7 @@ module _ (s : Session) (y c : List ℕ) where
   session-left_open before (Word w) was e =
       ((fed_keeps s (w ∷ []) y c).0 ∙ (was e).0, fed_in_range s (w ∷ []) y c (was e).1)
 
-  room-left : (p : Piece) → Roomy y c → Roomy (y_after p s y c) (c_after p s y c)
+  pub room-left : (p : Piece) → Roomy y c → Roomy (y_after p s y c) (c_after p s y c)
   unfolding fed_all
   room-left More room = room
   room-left (Chosen code) room = room

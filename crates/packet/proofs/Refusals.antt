@@ -1,8 +1,8 @@
 -- Laws of the refusals of building.
-use mathlib.Core.Path.{◌≡◌, ◌∙◌}
+use mathlib.Core.Path.{◌≡◌, refl, ◌∙◌}
 use mathlib.Core.Bool.{true, false, not}
 use mathlib.Core.List.{List, [], ◌∷◌}
-use Prim.Native.Nat.{ℕ, ◌+◌, ◌≤◌, ◌<◌}
+use Prim.Native.Nat.{ℕ, zero, suc, ◌+◌, ◌≤◌, ◌<◌}
 use lib.Dec.{leb, eqb}
 use native.Mathlib.Omega.{arith}
 use lib.ListN.{length, drop}
@@ -10,8 +10,10 @@ use borrow.Author.Tests.{le-leb, lt-leb, ne_eqb, leb-true, eqb-false, not-true}
 use Rattle.bits.specs.Choice.{if}
 use Rattle.bits.specs.Words.{words10, reserved_code}
 use Rattle.bits.proofs.Choice.{and-true, if_zero}
-use Rattle.refusal.proofs.Answers.{if_below}
-use Rattle.parts.specs.Parts.{any}
+use Rattle.std.specs.Prelude.{Err}
+use Rattle.refusal.specs.Refusal.{refusal_numbered, refusal_of, result_of}
+use Rattle.refusal.proofs.Answers.{refusal_of_result, if_below}
+use Rattle.parts.specs.Parts.{any, laid_unless}
 use Rattle.parts.proofs.Comparing.{any_of_append}
 use Rattle.scan.specs.Packet.{checksum_of}
 use Rattle.scan.proofs.Packets.{checksum_not_reserved}
@@ -74,3 +76,10 @@ module _ (did : ℕ) (user : List ℕ) (room : ℕ) where
         (lawful_of_built e).0.free,
         checksum_not_reserved (body_of did sdid user),
       )
+
+-- ---- what a refusal answers, and the buffer that it leaves
+
+pub refused : (n : ℕ) (user packet out : List ℕ) → (n ≡ 0 → ⊥)
+    → (result_of n (length user + 7) ≡ Err (refusal_numbered n)) × (n < 8 → refusal_of (result_of n (length user + 7)) ≡ n) × (out ≡ laid_unless n packet out)
+refused zero user packet out h = absurd (h refl)
+refused (suc n) user packet out h = (refl, refusal_of_result (length user + 7) (suc n), refl)

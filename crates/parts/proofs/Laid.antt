@@ -12,10 +12,10 @@ use Rattle.parts.specs.Parts.{part, laid, unless_refused}
 
 -- ---- where nothing is to be laid, and where no place is left
 
-laid_start : (at : ℕ) (ws buffer : List ℕ) → laid (at + 0) ws buffer ≡ laid at ws buffer
+pub laid_start : (at : ℕ) (ws buffer : List ℕ) → laid (at + 0) ws buffer ≡ laid at ws buffer
 laid_start at ws buffer = let e : at + 0 ≡ at = omega arith in rw e
 
-laid-past : (at : ℕ) (ws buffer : List ℕ) → length buffer ≤ at → laid at ws buffer ≡ buffer
+pub laid-past : (at : ℕ) (ws buffer : List ℕ) → length buffer ≤ at → laid at ws buffer ≡ buffer
 unfolding laid
 laid-past at [] buffer h = refl
 laid-past at (w ∷ ws) buffer h = rw (set_out buffer at w h) (laid-past (suc at) ws buffer (omega arith))
@@ -63,7 +63,7 @@ laid_split at ws buffer h =
 
 -- ---- before, after and at the words laid
 
-take_of_laid : (n at : ℕ) (ws buffer : List ℕ) → n ≤ at → take n (laid at ws buffer) ≡ take n buffer
+pub take_of_laid : (n at : ℕ) (ws buffer : List ℕ) → n ≤ at → take n (laid at ws buffer) ≡ take n buffer
 unfolding laid
 take_of_laid n at [] buffer h = refl
 take_of_laid n at (w ∷ ws) buffer h = take_of_laid n (suc at) ws (set buffer at w) (omega arith) ∙ take-set-le n buffer at w h

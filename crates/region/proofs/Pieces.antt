@@ -19,46 +19,46 @@ use Rattle.region.specs.Region.{change_piece, changed, mend_packet, mended, wipe
 
 -- ---- what is done and what is left
 
-abbrev pub todo : (List ℕ → List ℕ) → List ℕ → ℕ → List ℕ
-todo f r i = take i r ++ changed f (drop i r)
+abbrev pub todo : (Piece → List ℕ) → List ℕ → ℕ → List ℕ
+todo made r i = take i r ++ flat_map made (scan (drop i r))
 
-pub todo_end : (f : List ℕ → List ℕ) (r : List ℕ) (i : ℕ) → length r ≤ i → todo f r i ≡ r
+pub todo_end : (made : Piece → List ℕ) (r : List ℕ) (i : ℕ) → length r ≤ i → todo made r i ≡ r
 unfolding flat_map
-todo_end f r i h = rw (scan_end i r h, take_all i r h) (append-nil r)
+todo_end made r i h = rw (scan_end i r h, take_all i r h) (append-nil r)
 
-module _ (f : List ℕ → List ℕ) (r : List ℕ) (i n : ℕ) (p : Piece) (next : scan (drop i r) ≡ p ∷ scan (drop (i + n) r)) where
+module _ (made : Piece → List ℕ) (r : List ℕ) (i n : ℕ) (p : Piece) (next : scan (drop i r) ≡ p ∷ scan (drop (i + n) r)) where
   -- what is made of the piece stands in its place
-  todo_step : (r' : List ℕ) → take i r' ≡ take i r → part i n r' ≡ change_piece f p → drop (i + n) r' ≡ drop (i + n) r → todo f r i ≡ todo f r' (i + n)
+  todo_step : (r' : List ℕ) → take i r' ≡ take i r → part i n r' ≡ made p → drop (i + n) r' ≡ drop (i + n) r → todo made r i ≡ todo made r' (i + n)
   unfolding flat_map
   todo_step r' before here after =
-      rw (next, take-add i n r', before, here, after) (sym (append_assoc (take i r) (change_piece f p) (changed f (drop (i + n) r))))
+      rw (next, take-add i n r', before, here, after) (sym (append_assoc (take i r) (made p) (flat_map made (scan (drop (i + n) r)))))
 
-  todo_kept : change_piece f p ≡ words_of p → length (words_of p) ≡ n → todo f r i ≡ todo f r (i + n)
+  pub todo_kept : made p ≡ words_of p → length (words_of p) ≡ n → todo made r i ≡ todo made r (i + n)
   unfolding flat_map
   todo_kept e long =
       let words : drop i r ≡ words_of p ++ drop (i + n) r = sym (words_of_scan (drop i r)) ∙ rw next (ap (λ (l : List ℕ). words_of p ++ l) (words_of_scan (drop (i + n) r))) in
       todo_step r refl (ap (take n) words ∙ take_at (words_of p) (drop (i + n) r) n long ∙ sym e) refl
 
-pub todo_word : (f : List ℕ → List ℕ) (r : List ℕ) (i : ℕ) → AtNothing r i → todo f r i ≡ todo f r (i + 1)
-todo_word f r i t = todo_kept f r i 1 (Word _) t.next refl refl
+pub todo_word : (f : List ℕ → List ℕ) (r : List ℕ) (i : ℕ) → AtNothing r i → todo (change_piece f) r i ≡ todo (change_piece f) r (i + 1)
+todo_word f r i t = todo_kept (change_piece f) r i 1 (Word _) t.next refl refl
 
-pub todo_cut : (f : List ℕ → List ℕ) (r : List ℕ) (i : ℕ) → AtCut r i → todo f r i ≡ todo f r (i + 3)
-todo_cut f r i t = todo_kept f r i 3 Marker t.next refl refl
+pub todo_cut : (f : List ℕ → List ℕ) (r : List ℕ) (i : ℕ) → AtCut r i → todo (change_piece f) r i ≡ todo (change_piece f) r (i + 3)
+todo_cut f r i t = todo_kept (change_piece f) r i 3 Marker t.next refl refl
 
 -- the packet of n words at place i, as f leaves it
 pub todo_packet : (f : List ℕ → List ℕ) (r : List ℕ) (i n : ℕ) (v : List ℕ) → AtWhole r i n → v ≡ f (take n (drop i r)) → length v ≡ n
-    → todo f r i ≡ todo f (put_mid i n r v) (i + n)
+    → todo (change_piece f) r i ≡ todo (change_piece f) (put_mid i n r v) (i + n)
 todo_packet f r i n v t e long =
     let room : i ≤ length r = omega (arith, t.room) in
     let places : i + n - i ≡ n = omega arith in
     let there : length v ≡ i + n - i = omega arith in
-    todo_step f r i n (Packet (take n (drop i r))) t.next (put_mid i n r v) (take-put_mid_below i n r v i (omega arith) room)
+    todo_step (change_piece f) r i n (Packet (take n (drop i r))) t.next (put_mid i n r v) (take-put_mid_below i n r v i (omega arith) room)
     (rw places at (between-put_mid i n r v (i + n) room there) ∙ e) (drop-put_mid i n r v (i + n) (omega arith) room long)
 
 -- what is left stays over what is no packet
 pub todo_next : (f : List ℕ → List ℕ) (r : List ℕ) (i : ℕ) (found : Option (Range ℕ)) → found ≡ next_packet i (scan (drop i r))
-    → Reached r (λ j. todo f r i ≡ todo f r j) (λ j t e. e ∙ todo_word f r j t) (λ j t e. e ∙ todo_cut f r j t) found
-todo_next f r i found e = reach r (λ j. todo f r i ≡ todo f r j) (λ j t e. e ∙ todo_word f r j t) (λ j t e. e ∙ todo_cut f r j t) i found e refl
+    → Reached r (λ j. todo (change_piece f) r i ≡ todo (change_piece f) r j) (λ j t e. e ∙ todo_word f r j t) (λ j t e. e ∙ todo_cut f r j t) found
+todo_next f r i found e = reach r (λ j. todo (change_piece f) r i ≡ todo (change_piece f) r j) (λ j t e. e ∙ todo_word f r j t) (λ j t e. e ∙ todo_cut f r j t) i found e refl
 
 -- ---- lengths
 

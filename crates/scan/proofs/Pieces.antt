@@ -156,7 +156,7 @@ has_zero = any (λ w. eqb w 0)
 abbrev pub none_zero : List ℕ → Bool
 none_zero ws = not (has_zero ws)
 
-scanned-past : (r : List ℕ) (i k : ℕ) → any (λ w. eqb w 0) (take k (drop i r)) ≡ false → scanned (scan (drop i r)) ≡ scanned (scan (drop (i + k) r))
+pub scanned-past : (r : List ℕ) (i k : ℕ) → any (λ w. eqb w 0) (take k (drop i r)) ≡ false → scanned (scan (drop i r)) ≡ scanned (scan (drop (i + k) r))
 unfolding marked same
 scanned-past r i k e = go k (drop i r) e ∙ rw drop-drop
   where

@@ -138,7 +138,7 @@ module _ (ws : List ℕ) (tens : words10 ws ≡ true) where
   last_none l = refl
 
   -- after three pairs it does not count what was before
-  last_three : (l k : ℕ) → l < 0x1000000000000000 → 2 * (k + 3) ≤ length ws → last_after l (drop (2 * k) ws) 3 ≡ last_after l ws (k + 3)
+  pub last_three : (l k : ℕ) → l < 0x1000000000000000 → 2 * (k + 3) ≤ length ws → last_after l (drop (2 * k) ws) 3 ≡ last_after l ws (k + 3)
   last_three l k low fits =
       sixty l low
       ∙ sym

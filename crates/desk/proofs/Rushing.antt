@@ -106,10 +106,7 @@ feed_answers : (s : Session) (ws y c : List ℕ) {after : Session} → Ok after 
 unfolding fed
 feed_answers s ws y c e = (result_of_ok (fed_session s ws (fed_run s ws y c)) (feed_refusal s ws y c) (sym e)).0
 
-module _ (d : Desk) (at : ℕ) (bytes y c : List ℕ) (start : at < length bytes) where
-  abbrev size : ℕ
-  size = length bytes - 1 - at
-
+module _ (d : Desk) (at size : ℕ) (bytes y c : List ℕ) where
   abbrev part : List ℕ
   part = take size (drop at bytes)
 
@@ -121,7 +118,8 @@ module _ (d : Desk) (at : ℕ) (bytes y c : List ℕ) (start : at < length bytes
 
   pub rushed : (room : List ℕ) {x : Run} {words y' c' : List ℕ} {after : Session} → x ≡ run_of d.reader part (length room) → words ≡ run_words d.reader part room
       → Ok after ≡ fed d.session (take x.words words) y c → y' ≡ fed_y d.session (take x.words words) y c → c' ≡ fed_c d.session (take x.words words) y c
-      → Ahead bytes (standing d y c) at (standing (desk x.reader after) y' c') (at + 2 * x.words)
+      → walked (drop at bytes) (walk (standing d y c) at nothing)
+      ≡ walked (drop (at + 2 * x.words) bytes) (walk (standing (desk x.reader after) y' c') (at + 2 * x.words) nothing)
   rushed room {x} {words} ex ew ef ey ec =
       let n = x.words in
       let many : n ≡ run_size d.reader part (length room) = ap (λ (r : Run). r.words) ex in
@@ -131,21 +129,31 @@ module _ (d : Desk) (at : ℕ) (bytes y c : List ℕ) (start : at < length bytes
       let taken = rw same at ef in
       let none = feed_answers d.session (take n (words_in part)) y c taken in
       let once = at_once n d part (drop size (drop at bytes)) y c at long (omega arith) none in
+      rw (ey, ec, same, reader) (rw (take-append-drop size (drop at bytes), parted n long, ← taken) at once)
+
+-- a feed that is refused changes no buffer
+pub unchanged : (s : Session) (ws y c : List ℕ) {refusal : Refusal} {y' c' : List ℕ} → Err refusal ≡ fed s ws y c → y' ≡ fed_y s ws y c → c' ≡ fed_c s ws y c
+    → (y' ≡ y) × (c' ≡ c)
+unfolding fed fed_y fed_c
+unchanged s ws y c e ey ec =
+    let bad = (result_of_err (fed_session s ws (fed_run s ws y c)) (feed_refusal s ws y c) (sym e)).0 in
+    (ey ∙ unless_refused-refused _ (fed_run s ws y c).y y bad, ec ∙ unless_refused-refused _ (fed_run s ws y c).c c bad)
+
+-- words that are taken at once, and the last byte left over
+module _ (d : Desk) (at : ℕ) (bytes y c : List ℕ) (start : at < length bytes) where
+  abbrev size : ℕ
+  size = length bytes - 1 - at
+
+  pub rushed_ahead : (room : List ℕ) {x : Run} {words y' c' : List ℕ} {after : Session} → x ≡ run_of d.reader (take size (drop at bytes)) (length room) → words ≡ run_words d.reader (take size (drop at bytes)) room
+      → Ok after ≡ fed d.session (take x.words words) y c → y' ≡ fed_y d.session (take x.words words) y c → c' ≡ fed_c d.session (take x.words words) y c
+      → Ahead bytes (standing d y c) at (standing (desk x.reader after) y' c') (at + 2 * x.words)
+  rushed_ahead room ex ew ef ey ec =
       record {
         onward = omega arith;
         within = omega (arith, (run_within d.reader size (drop at bytes) (length room) ex).0);
-        rest = rw (ey, ec, same, reader) (rw (take-append-drop size (drop at bytes), parted n long, ← taken) at once);
+        rest = rushed d at size bytes y c room ex ew ef ey ec;
       }
-
-  -- a feed that is refused changes no buffer
-  pub unchanged : (ws : List ℕ) {refusal : Refusal} {y' c' : List ℕ} → Err refusal ≡ fed d.session ws y c → y' ≡ fed_y d.session ws y c → c' ≡ fed_c d.session ws y c
-      → (y' ≡ y) × (c' ≡ c)
-  unfolding fed fed_y fed_c
-  unchanged ws e ey ec =
-      let s = d.session in
-      let bad = (result_of_err (fed_session s ws (fed_run s ws y c)) (feed_refusal s ws y c) (sym e)).0 in
-      (ey ∙ unless_refused-refused _ (fed_run s ws y c).y y bad, ec ∙ unless_refused-refused _ (fed_run s ws y c).c c bad)
 
   pub unrushed : (ws : List ℕ) {refusal : Refusal} {y' c' : List ℕ} → Err refusal ≡ fed d.session ws y c → y' ≡ fed_y d.session ws y c → c' ≡ fed_c d.session ws y c
       → Ahead bytes (standing d y c) at (standing d y' c') at
-  unrushed ws e ey ec = let same = unchanged ws e ey ec in rw (same.0, same.1) (ahead_none bytes (standing d y c) at start)
+  unrushed ws e ey ec = let same = unchanged d.session ws y c e ey ec in rw (same.0, same.1) (ahead_none bytes (standing d y c) at start)

@@ -1,7 +1,7 @@
 // A desk: takes the bytes of a bench file as they arrive, in pieces of any size, and runs a session per job.
 #![tactic(auto)]
 
-ghost use Rattle.std.specs.Prelude.{◌≡◌, true, ◌<◌, eqb, length};
+ghost use Rattle.std.specs.Prelude.{◌≡◌, true, ◌≤◌, ◌<◌, eqb, length};
 ghost use Rattle.bits.specs.Choice.{if};
 ghost use Rattle.refusal.specs.Refusal.{result_of};
 ghost use Rattle.session.specs.Session.{end_refusal};
@@ -36,7 +36,8 @@ pub struct Desk {
     pub session: Session,
 }
 
-// How many words are fed at once. Room for them is cleared each time, so where few are ahead it is room for few.
+// How many words are fed at once. Room for them is cleared each time, so where few are ahead it is room for few, and it stands in the function that
+// fills it: a function clears all its room when it begins.
 const FEW: usize = 256;
 
 const MANY: usize = 1024;
@@ -127,14 +128,18 @@ fn skim(mut reader: Reader, bytes: &[u8], at: usize) -> (Reader, usize)
 {
     let last = bytes.len() - 1;
     for i in at..last {
-        match reader.read(bytes[i]) {
+        if !is_head(reader.stage) {
+            return (reader, i);
+        }
+        let mut next = reader;
+        match next.read(bytes[i]) {
             Ok(
                 Read {
                     piece: Piece::More,
                     ends: false,
-                    reader: next,
+                    ..
                 },
-            ) if is_head(reader.stage) => reader = next,
+            ) => reader = next,
             _ => return (reader, i),
         }
     }
@@ -170,12 +175,13 @@ impl Desk {
         ensures yrow { y.new ≡ turned_y self byte y.old c.old }
         ensures crow { c.new ≡ turned_c self byte y.old c.old }
     {
-        let read = match self.reader.read(byte) {
+        let mut reader = self.reader;
+        let read = match reader.read(byte) {
             Ok(read) => read,
             Err(refusal) => {
                 return Turn {
                     desk: Desk {
-                        reader: Reader::stopped(),
+                        reader,
                         ..Desk::fresh()
                     },
                     outcome: Outcome::BadFile(u8::from(refusal)),
@@ -183,7 +189,7 @@ impl Desk {
             }
         };
         let desk = Desk {
-            reader: read.reader,
+            reader,
             session: session_after(read.piece, self.session, y, c),
         };
         if !read.ends {
@@ -204,20 +210,21 @@ impl Desk {
 
     // Takes words at once, and leaves a byte or more. Words that `feed` refuses are left too, for the byte that is at fault to be met.
     // Answers the desk and where it stands.
-    #[tactic(auto, using(crate::proofs::Rushing::run_within, crate::proofs::Rushing::rushed, crate::proofs::Rushing::unrushed))]
-    fn rush(
+    #[tactic(auto, using(crate::proofs::Rushing::run_within, crate::proofs::Rushing::rushed_ahead, crate::proofs::Rushing::unrushed))]
+    fn rush<const ROOM: usize>(
         self,
         bytes: &[u8],
         at: usize,
-        room: &mut [u16],
         y: &mut [u16],
         c: &mut [u16],
     ) -> (Desk, usize)
-        requires { at < length bytes.now }
+        requires room { ROOM ≤ 1024 }
+        requires bytes { at < length bytes.now }
         ensures { Ahead bytes.now (standing self y.old c.old) at (standing result.0 y.new c.new) result.1 }
     {
         let last = bytes.len() - 1;
-        let run = section::read_words(self.reader, &bytes[at..last], room);
+        let mut room = [0; ROOM];
+        let run = section::read_words(self.reader, &bytes[at..last], &mut room);
         match self.session.feed(&room[..run.words], y, c) {
             Ok(session) => (
                 Desk {
@@ -240,8 +247,8 @@ impl Desk {
         let desk = Desk { reader, ..self };
         match words_ahead(reader, bytes.len() - 1 - from) {
             0 => (desk, from),
-            1..=FEW => desk.rush(bytes, from, &mut [0; FEW], y, c),
-            _ => desk.rush(bytes, from, &mut [0; MANY], y, c),
+            1..=FEW => desk.rush::<FEW>(bytes, from, y, c),
+            _ => desk.rush::<MANY>(bytes, from, y, c),
         }
     }
 

@@ -62,7 +62,7 @@ blank stage = reader stage (count 0 0) 0 no_tag (options 0 false)
 abbrev pub fresh : Reader
 fresh = blank TagCount
 
--- "on a refusal .. stops"
+-- after a refusal
 abbrev pub stopped : Reader
 stopped = blank Stopped
 
@@ -156,6 +156,11 @@ read_at Stopped r b = brings More r
 
 unfoldable pub read_of : Reader → ℕ → Answer
 read_of r b = read_at r.stage r b
+
+-- the reader that a byte leaves: "on a refusal .. stops"
+abbrev pub left_by : Answer → Reader
+left_by (Ok x) = x.reader
+left_by (Err refusal) = stopped
 
 -- "cut short": the input ends inside a job
 abbrev pub cut_at : Stage → ℕ → Bool

@@ -2,7 +2,7 @@
 #![tactic(auto)]
 
 ghost use Rattle.std.specs.Prelude.{◌≡◌, ◌<◌, Some, None, Ok, if◌then◌else◌, ltb};
-ghost use Rattle.reader.specs.Reader.{brings, chooses, counted, ends, fresh, goes_on, is_cut, of_high_byte, of_low_byte, of_options_count, of_raster_byte, of_tag_byte, of_tag_count, of_wipe_byte, of_word_count, read_of, stopped, tagged, tag_with, waits};
+ghost use Rattle.reader.specs.Reader.{brings, chooses, counted, ends, fresh, goes_on, is_cut, left_by, of_high_byte, of_low_byte, of_options_count, of_raster_byte, of_tag_byte, of_tag_count, of_wipe_byte, of_word_count, read_of, stopped, tagged, tag_with, waits};
 
 use refusal::Refusal;
 
@@ -312,9 +312,9 @@ impl Reader {
         Ok(bring(Piece::Word(word), self.go_on(Stage::LowByte, left - 1)))
     }
 
-    // Takes a byte; 9, 4, 3. After a refusal nothing of the file is to be read: who reads it goes on with `stopped`.
+    // What a byte brings; 9, 4, 3.
     #[tactic(auto, unfolding(crate::specs::Reader::read_of))]
-    pub fn read(self, byte: u8) -> Result<Read, Refusal>
+    fn of_byte(self, byte: u8) -> Result<Read, Refusal>
         ensures { result ≡ read_of self byte }
     {
         match self.stage {
@@ -328,6 +328,19 @@ impl Reader {
             Stage::HighByte => self.of_high_byte(byte),
             Stage::Stopped => Ok(bring(Piece::More, self)),
         }
+    }
+
+    // Takes a byte; 9, 4, 3. After a refusal nothing of the file is read any more: the reader is left stopped.
+    pub fn read(&mut self, byte: u8) -> Result<Read, Refusal>
+        ensures answer { result ≡ read_of self.old byte }
+        ensures after { self.new ≡ left_by (read_of self.old byte) }
+    {
+        let read = self.of_byte(byte);
+        *self = match read {
+            Ok(read) => read.reader,
+            Err(_) => Reader::stopped(),
+        };
+        read
     }
 
     // Whether a file that ends here is cut short.

@@ -151,12 +151,6 @@ impl Session {
         !self.running && self.is_in_range()
     }
 
-    fn is_open(self) -> bool
-        ensures { result ≡ (self.running && in_range self) }
-    {
-        self.running && self.is_in_range()
-    }
-
     // A module's start under a raster; 7, 4.
     pub fn begin(self, raster: u32) -> Result<Session, Refusal>
         ensures { result ≡ begun self raster }
@@ -177,10 +171,10 @@ impl Session {
     fn open(self) -> Result<Raster, Refusal>
         ensures { result ≡ opened self }
     {
-        if !self.is_open() {
-            return Err(Refusal::OutOfTurn);
+        match raster::raster_of(self.raster) {
+            Ok(found) if self.running && self.is_in(found) => Ok(found),
+            _ => Err(Refusal::OutOfTurn),
         }
-        raster::raster_of(self.raster)
     }
 
     // The raster under which words are fed; 7, 3, 1.

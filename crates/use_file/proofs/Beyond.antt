@@ -54,7 +54,7 @@ module _ (y c : List ℕ) where
       go true f = f
       go false f = e
 
-take_beyond : (d : Desk) (bs y c : List ℕ) → Kept longest y c (taken_y d bs y c) (taken_c d bs y c)
+pub take_beyond : (d : Desk) (bs y c : List ℕ) → Kept longest y c (taken_y d bs y c) (taken_c d bs y c)
 unfolding taken_y taken_c
 take_beyond d bs y c = go (take_refusal d y c)
   where

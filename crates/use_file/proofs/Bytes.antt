@@ -1,7 +1,9 @@
--- A lawful byte is not refused.
+-- A lawful byte is not refused; a refused one stops the reader.
 use mathlib.Core.Path.{◌≡◌, refl}
 use mathlib.Core.Bool.{Bool, true, false, ◌||◌}
-use Prim.Native.Nat.{ℕ}
+use Prim.Native.Nat.{ℕ, ◌<◌}
+use native.Mathlib.Omega.{arith}
+use Rattle.std.specs.Prelude.{Ok, Err}
 use lib.Dec.{ltb, eqb}
 use Rattle.bits.specs.Choice.{if}
 use Rattle.bits.proofs.Choice.{false_not_true, and-true}
@@ -10,7 +12,7 @@ use Rattle.raster.specs.Table.{raster_ok}
 use Rattle.reader.specs.declared.Stage.{Stage}
 use Rattle.reader.specs.declared.Stage.TheVariants.{TagCount, TagBytes, OptionsCount, RasterByte, WipeByte, WordCount, LowByte, HighByte, Stopped}
 use Rattle.reader.specs.declared.Reader.{Reader}
-use Rattle.reader.specs.Reader.{Answer, counted, tag_size_ok, options_size_ok, wipe_ok, of_tag_count, of_tag_byte, of_options_count, of_wipe_byte, of_word_count, of_high_byte, read_at}
+use Rattle.reader.specs.Reader.{Answer, counted, left_by, stopped, tag_size_ok, options_size_ok, wipe_ok, of_tag_count, of_tag_byte, of_options_count, of_wipe_byte, of_word_count, of_high_byte, read_at}
 use Rattle.law_refusal.specs.Files.{lawful}
 
 -- a test that leads to neither refusal, and a count before its end
@@ -35,3 +37,7 @@ lawful_read WordCount r b ok = either (ltb r.count.seen 3) _ _ refl (either (eqb
 lawful_read LowByte r b ok = refl
 lawful_read HighByte r b ok = rw ok (either (ltb r.count.left 2) _ _ refl refl)
 lawful_read Stopped r b ok = refl
+
+pub stops : (a : Answer) → 0 < refusal_of a → left_by a ≡ stopped
+stops (Ok x) h = absurd (omega arith)
+stops (Err refusal) h = refl

@@ -6,7 +6,7 @@ ghost use Rattle.refusal.specs.declared.Refusal.TheVariants.{BadFile, NoRaster, 
 ghost use Rattle.refusal.specs.Refusal.{refusal_of};
 ghost use Rattle.raster.specs.Table.{raster_ok};
 ghost use Rattle.reader.specs.declared.Stage.TheVariants.{TagCount, TagBytes, OptionsCount, WipeByte, HighByte};
-ghost use Rattle.reader.specs.Reader.{counted, is_cut, options_size_ok, printable, tag_size_ok, wipe_ok, word_of, word_ok};
+ghost use Rattle.reader.specs.Reader.{counted, is_cut, options_size_ok, printable, stopped, tag_size_ok, wipe_ok, word_of, word_ok};
 ghost use Rattle.desk.specs.Desk.{bad_file, longest, nothing};
 ghost use Rattle.law_refusal.specs.Files.{lawful, ready, roomy};
 
@@ -14,15 +14,17 @@ use desk::{Desk, Outcome, Taken};
 use reader::{Read, Reader};
 use refusal::Refusal;
 
-// A byte, by its stage; a count is there with its fourth byte.
-pub fn read(reader: Reader, byte: u8) -> Result<Read, Refusal>
-    ensures tagsize { reader.stage ≡ TagCount → 3 ≤ reader.count.seen → tag_size_ok (counted byte reader.count) ≡ false → result ≡ Err BadFile }
-    ensures tagbyte { reader.stage ≡ TagBytes → printable byte ≡ false → result ≡ Err BadFile }
-    ensures optionssize { reader.stage ≡ OptionsCount → 3 ≤ reader.count.seen → options_size_ok (counted byte reader.count) ≡ false → result ≡ Err BadFile }
-    ensures wipe { reader.stage ≡ WipeByte → wipe_ok byte ≡ false → result ≡ Err BadFile }
-    ensures raster { reader.stage ≡ WipeByte → wipe_ok byte ≡ true → raster_ok reader.options.raster ≡ false → result ≡ Err NoRaster }
-    ensures word { reader.stage ≡ HighByte → word_ok (word_of reader.low byte) ≡ false → result ≡ Err TooHigh }
-    ensures done { lawful reader.stage reader byte ≡ true → refusal_of result ≡ 0 }
+// A byte, by its stage; a count is there with its fourth byte. After a refusal the reader reads no more.
+#[tactic(auto, using(crate::proofs::Bytes::stops))]
+pub fn read(reader: &mut Reader, byte: u8) -> Result<Read, Refusal>
+    ensures tagsize { reader.old.stage ≡ TagCount → 3 ≤ reader.old.count.seen → tag_size_ok (counted byte reader.old.count) ≡ false → result ≡ Err BadFile }
+    ensures tagbyte { reader.old.stage ≡ TagBytes → printable byte ≡ false → result ≡ Err BadFile }
+    ensures optionssize { reader.old.stage ≡ OptionsCount → 3 ≤ reader.old.count.seen → options_size_ok (counted byte reader.old.count) ≡ false → result ≡ Err BadFile }
+    ensures wipe { reader.old.stage ≡ WipeByte → wipe_ok byte ≡ false → result ≡ Err BadFile }
+    ensures raster { reader.old.stage ≡ WipeByte → wipe_ok byte ≡ true → raster_ok reader.old.options.raster ≡ false → result ≡ Err NoRaster }
+    ensures word { reader.old.stage ≡ HighByte → word_ok (word_of reader.old.low byte) ≡ false → result ≡ Err TooHigh }
+    ensures done { lawful reader.old.stage reader.old byte ≡ true → refusal_of result ≡ 0 }
+    ensures stops { 0 < refusal_of result → reader.new ≡ stopped }
 {
     reader.read(byte)
 }

@@ -20,8 +20,9 @@ const ROWS: u32 = LINES + 2;
 // The pairs of a row, C word first.
 fn paired(y: &[u16; TOTAL], c: &[u16; TOTAL]) -> [u16; 2 * TOTAL] {
     let mut pairs = [0; 2 * TOTAL];
-    for (pair, (c, y)) in pairs.chunks_exact_mut(2).zip(c.iter().zip(y)) {
-        pair.copy_from_slice(&[*c, *y]);
+    for (i, (c, y)) in c.iter().zip(y).enumerate() {
+        pairs[2 * i] = *c;
+        pairs[2 * i + 1] = *y;
     }
     pairs
 }
@@ -34,8 +35,8 @@ struct Sender {
 }
 
 impl Sender {
-    // A row built with a packet in its blanking, and scrambled.
-    fn send(&mut self, line: u32) -> Result<[u16; 2 * TOTAL], Refusal> {
+    // A row built with a packet in its blanking, and scrambled into a cable.
+    fn send(&mut self, line: u32, cable: &mut [u16; 2 * TOTAL]) -> Result<(), Refusal> {
         let mut packet = [0; 9];
         sdi::build_packet(0x61, 0x01, &[0x196, 0x269], &mut packet)?;
         let mut y = [0; TOTAL];
@@ -51,9 +52,8 @@ impl Sender {
             &mut y,
             &mut c,
         )?;
-        let mut cable = [0; 2 * TOTAL];
-        self.history = sdi::scramble(self.history, &paired(&y, &c), &mut cable)?;
-        Ok(cable)
+        self.history = sdi::scramble(self.history, &paired(&y, &c), cable)?;
+        Ok(())
     }
 }
 
@@ -65,9 +65,10 @@ fn judged(struck: Option<u32>) -> Result<Ended, Refusal> {
     };
     let mut y = [0; TOTAL];
     let mut c = [0; TOTAL];
+    let mut cable = [0; 2 * TOTAL];
     let mut session = Session::fresh().begin(RASTER)?;
     for row in 0..ROWS {
-        let mut cable = sender.send(row % LINES + 1)?;
+        sender.send(row % LINES + 1, &mut cable)?;
         cable[2000] ^= u16::from(struck == Some(row));
         session = session.feed(&cable, &mut y, &mut c)?;
     }
@@ -84,17 +85,19 @@ fn verdict_text(verdict: Verdict) -> &'static str {
     }
 }
 
+// What is judged is written before it is computed: a write that fails ends the run first.
 fn judge<W: Write>(to: &mut W, what: &str, struck: Option<u32>) -> io::Result<()> {
+    write!(to, "{what}")?;
     match judged(struck) {
         Ok(ended) => writeln!(
             to,
-            "{what}: raster {} rows {} faults {} {}",
+            ": raster {} rows {} faults {} {}",
             ended.raster,
             ended.counts.rows,
             ended.counts.faults,
             verdict_text(ended.verdict)
         ),
-        Err(refusal) => writeln!(to, "{what}: refused {}", u8::from(refusal)),
+        Err(refusal) => writeln!(to, ": refused {}", u8::from(refusal)),
     }
 }
 

@@ -1,12 +1,14 @@
 // Lists of words by their runs.
-ghost use Rattle.std.specs.Prelude.{length};
+ghost use Rattle.std.specs.Prelude.{◌≤◌, length};
 ghost use Rattle.std.specs.Iterator.{at_most};
 
 use crate::numbers::{arg, word};
 use std::io::{self, Write};
 
 // Copies the list whose runs stand at a place of a request, of words that find no place none, and answers where the request goes on.
-pub fn take_runs<'a>(args: &[u32], at: usize, words: &'a mut [u16]) -> (&'a mut [u16], usize) {
+pub fn take_runs<'a>(args: &[u32], at: usize, words: &'a mut [u16]) -> (&'a mut [u16], usize)
+    ensures { length result.0.now ≤ length words.old }
+{
     let runs = arg(args, at) as usize % 65536;
     let start = at % 65536 + 1;
     let mut count = 0;

@@ -1,9 +1,13 @@
 // Lists of bytes.
+ghost use Rattle.std.specs.Prelude.{◌≤◌, length};
+
 use probe_answers::numbers::{arg, byte};
 use std::io::{self, Write};
 
 // Copies the list of bytes at a place, which its count precedes; of bytes that find no place, none.
-pub fn take_bytes<'a>(args: &[u32], at: usize, bytes: &'a mut [u8]) -> &'a mut [u8] {
+pub fn take_bytes<'a>(args: &[u32], at: usize, bytes: &'a mut [u8]) -> &'a mut [u8]
+    ensures { length result.now ≤ length bytes.old }
+{
     let count = bytes.len().min(arg(args, at) as usize);
     let taken = &mut bytes[..count];
     for (place, number) in taken.iter_mut().zip(args.iter().skip(at).skip(1)) {

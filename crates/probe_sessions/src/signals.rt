@@ -1,4 +1,6 @@
 // Signals: cable words by runs of two, and a list after them.
+ghost use Rattle.std.specs.Prelude.{◌≤◌, length};
+
 use probe_answers::numbers::{arg, word};
 
 // Lays the run of two words at a place of a request, which how many times precedes, from a place on.
@@ -6,8 +8,10 @@ fn lay_twos(args: &[u32], at: usize, words: &mut [u16], from: usize) {
     let times = arg(args, at) as usize % 65536;
     let one = word(arg(args, at % 65536 + 1));
     let two = word(arg(args, at % 65536 + 2));
-    for time in 0..times {
-        parts::lay(words, from % 65536 + time * 2, &[one, two]);
+    let mut place = from;
+    for _ in 0..times {
+        parts::lay(words, place, &[one, two]);
+        place = place % 65536 + 2;
     }
 }
 
@@ -21,7 +25,9 @@ fn lay_list(args: &[u32], at: usize, words: &mut [u16], from: usize) {
 }
 
 // Copies the words of a signal, which stands at a place of a request, as they are written there, and answers where the request goes on.
-fn take_written<'a>(args: &[u32], at: usize, words: &'a mut [u16]) -> (&'a mut [u16], usize) {
+fn take_written<'a>(args: &[u32], at: usize, words: &'a mut [u16]) -> (&'a mut [u16], usize)
+    ensures { length result.0.now ≤ length words.old }
+{
     let runs = arg(args, at % 65536 + 1) as usize % 65536;
     let mut next = at % 65536 + 2;
     let mut count = 0usize;
@@ -42,7 +48,9 @@ pub fn take_signal<'a>(
     at: usize,
     history: u16,
     words: &'a mut [u16],
-) -> (&'a mut [u16], usize) {
+) -> (&'a mut [u16], usize)
+    ensures { length result.0.now ≤ length words.old }
+{
     let (words, next) = take_written(args, at, words);
     if arg(args, at) != 0 {
         let mut written = [0u16; 40000];

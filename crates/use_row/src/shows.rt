@@ -39,10 +39,11 @@ pub fn built_and_found(
     ensures refused { (refusal_of result ≡ 0 → ⊥) → (packet.new ≡ packet.old) × (y.new ≡ y.old) }
 {
     finding::find_refusal(raster, line, did, sdid, y, c)?;
-    let words = packet::build(did, sdid, user, packet)?;
-    let whole = parts::part(packet, 0, words);
+    let built = packet::build(did, sdid, user, packet);
+    let whole = parts::part(packet, 0, built.unwrap_or(0));
     parts::lay(y, at, whole);
     let part = finding::find(raster, line, did, sdid, y, c);
+    built?;
     Ok(parts::same(part, whole))
 }
 
@@ -149,7 +150,7 @@ fn rows_checked(
 ) -> Result<Judged, Refusal>
     ensures { result ≡ next_checked raster line next carry y.now c.now }
 {
-    let total = plan::plan_of(raster, line)?.places.total;
+    let total = plan::plan_of(raster, line).map_or(0, |plan| plan.places.total);
     let first = row::check(
         raster,
         line,
@@ -201,7 +202,7 @@ pub fn struck(
 ) -> Result<(Judged, Judged), Refusal>
     ensures { TwoRows raster line next carry history one.now (length words.old) (length y.old) (length c.old) → TwoRows raster line next carry history other.now (length words.old) (length y.old) (length c.old) → IsOkAnd result (λ rows. (before a m n z : List Bool) → Struck raster line one.now other.now before a m n z → crc_flagged rows.0.flags ≡ false → crc_flagged rows.1.flags ≡ true) }
 {
-    let first = next_row(raster, line, next, carry, history, one, words, y, c)?;
-    let second = next_row(raster, line, next, carry, history, other, words, y, c)?;
-    Ok((first, second))
+    let first = next_row(raster, line, next, carry, history, one, words, y, c);
+    let second = next_row(raster, line, next, carry, history, other, words, y, c);
+    Ok((first?, second?))
 }

@@ -97,8 +97,8 @@ pub fn open_row_in_y(
 ) -> Result<Session, Refusal>
     ensures { raster_ok raster ≡ true → words10 words.now ≡ true → Fits raster y.old c.old → IsOkAnd result (λ s. open_row raster s y.new ≡ (run_of raster words.now).y) }
 {
-    let opened = Session::fresh().begin(raster)?;
-    opened.feed(words, y, c)
+    let closed = Session::fresh();
+    closed.begin(raster).unwrap_or(closed).feed(words, y, c)
 }
 
 // C holds its C words.
@@ -110,6 +110,6 @@ pub fn open_row_in_c(
 ) -> Result<Session, Refusal>
     ensures { raster_ok raster ≡ true → words10 words.now ≡ true → Fits raster y.old c.old → IsOkAnd result (λ s. open_row raster s c.new ≡ (run_of raster words.now).c) }
 {
-    let opened = Session::fresh().begin(raster)?;
-    opened.feed(words, y, c)
+    let closed = Session::fresh();
+    closed.begin(raster).unwrap_or(closed).feed(words, y, c)
 }

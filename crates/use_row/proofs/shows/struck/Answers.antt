@@ -1,6 +1,5 @@
 use mathlib.Core.List.{◌++◌}
 use borrow.Author.Rules.{rules}
-use Rattle.std.proofs.lemmas.Result.{MatchResult-at_err, MatchResult-at_ok}
 use Rattle.law_burst.proofs.TwoRows.{rows_flagged}
 use Rattle.use_row.proofs.TwoRows.{rows_resized}
 use Rattle.use_row.proofs.shows.struck.Goals as goal
